@@ -1,0 +1,8 @@
+// What the language lacks on f32: bit patterns with one NaN, the larger of two floats, the square
+// root and the stand-in cosine. Every function is total.
+mod bits;
+mod larger;
+
+pub use bits::bits_of;
+pub use bits::of_bits;
+pub use larger::max;
