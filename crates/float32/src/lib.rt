@@ -2,7 +2,9 @@
 // root and the stand-in cosine. Every function is total.
 mod bits;
 mod larger;
+mod root;
 
 pub use bits::bits_of;
 pub use bits::of_bits;
 pub use larger::max;
+pub use root::sqrt;
