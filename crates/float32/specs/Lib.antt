@@ -1,2 +1,3 @@
 pub mod Larger
 pub mod Root
+pub mod Cosine
