@@ -1,2 +1,4 @@
 pub mod Squares
 pub mod Values
+pub mod Gaps
+pub mod Laws

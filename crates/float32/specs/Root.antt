@@ -1,9 +1,9 @@
 -- squareRoot of IEEE 754-2019 (clause 5.4.1) on binary32, rounded by roundTiesToEven (4.3.1), stated by squares of whole numbers.
 -- Document 01, 'The arithmetic underneath'. A finite value is m * up e / down e (`lib.Ieee`).
-use Prim.Native.Nat.{ℕ, zero, suc, _+_, _-_, _*_, _/_, _^_}
-use mathlib.Core.Bool.{Bool, true, false, cond}
-use lib.Dec.{leb}
-use lib.Ieee.{Float, nan, inf, fin, up, down, size, odd}
+use Prim.Native.Nat.{ℕ, zero, suc, _+_, _-_, _*_, _/_, _^_, _<_}
+use mathlib.Core.Bool.{Bool, true, false, not, cond}
+use lib.Dec.{T, leb}
+use lib.Ieee.{Float, nan, inf, fin, binary32, up, down, size, odd, fits}
 
 -- The largest number among r, .., r + (2 ^ k - 1) whose square is at most n, if r's is: a digit is kept where the square still is.
 unfoldable pub rootFrom : ℕ → ℕ → ℕ → ℕ
@@ -29,3 +29,25 @@ sqrtOf nan = nan
 sqrtOf (inf s) = cond s nan (inf s)
 sqrtOf (fin s zero e) = fin s zero e
 sqrtOf (fin s (suc m) e) = cond s nan (rootOf (suc m * up e * 2 ^ 298 / down e))
+
+-- ---- the rule that the nearest root obeys, and no other value does
+
+-- The magnitude of a finite value, in units of the format's least, 2 ^ -149.
+unfoldable pub inUnits : Float → ℕ
+inUnits nan = 0
+inUnits (inf s) = 0
+inUnits (fin s m e) = m * up e * 2 ^ 149 / down e
+
+-- finite, with the sign clear
+abbrev pub unsigned : Float → Bool
+unsigned nan = false
+unsigned (inf s) = false
+unsigned (fin s m e) = not s
+
+-- roundTiesToEven to the nearest, by squares: for every other f32 value z the midpoint of z and y lies strictly between z and the root of x.
+-- Twice the midpoint is z + y; its square is compared with 4 * x in units of 2 ^ -298. The comparisons are strict, so there is no tie.
+pub record NearestRoot (x y : Float) : Type 0 where
+  pub below : (z : Float) → T (fits binary32 z) → T (unsigned z) → inUnits z < inUnits y
+      → (inUnits z + inUnits y) * (inUnits z + inUnits y) < 4 * (inUnits x * 2 ^ 149)
+  pub above : (z : Float) → T (fits binary32 z) → T (unsigned z) → inUnits y < inUnits z
+      → 4 * (inUnits x * 2 ^ 149) < (inUnits z + inUnits y) * (inUnits z + inUnits y)

@@ -20,7 +20,7 @@ use Rattle.float32.specs.Root.{nearestRoot, rootOf, sqrtOf}
 
 -- ---- the count, as `toBits` and `sqrtOf` compute it
 
-cut : (m : ℕ) (e : ℤ) (a : ℕ) → m * up e * 2 ^ 149 ≡ a * down e → m * up e * 2 ^ 149 / down e ≡ a
+pub cut : (m : ℕ) (e : ℤ) (a : ℕ) → m * up e * 2 ^ 149 ≡ a * down e → m * up e * 2 ^ 149 / down e ≡ a
 cut m e a h = ap (λ (x : ℕ). x / down e) h ∙ mul-div-cancel a (down-pos e)
 
 cut-twice : (m : ℕ) (e : ℤ) (a : ℕ) → m * up e * 2 ^ 149 ≡ a * down e → m * up e * 2 ^ 298 / down e ≡ a * 2 ^ 149
@@ -62,7 +62,7 @@ size-moved q k h l =
 -- ---- the float with the exponent field k + 1 and the significand r, carried where r is 2 ^ 24
 
 module _ (r k : ℕ) (low : 2 ^ 23 ≤ r) (high : r ≤ 2 ^ 24) (far : k ≤ 200) where
-  made-fits : T (fits binary32 (odd 25 false r k 149))
+  pub made-fits : T (fits binary32 (odd 25 false r k 149))
   made-fits =
       odd-fits binary32 25 false r k (lt-of-le-of-lt high (lit< tt)) high
       (lt-of-le-of-lt (mul-le-mul-right (2 ^ k) high) (lt-of-le-of-lt (le-of-eq (sym (pow-add 2 24 k))) (lt-of-le-of-lt (pow-mono {i = 24 + k} {j = 224} (omega arith)) (lit< tt))))
