@@ -1,0 +1,6 @@
+pub mod Numbers
+pub mod Matrix
+pub mod Vector
+pub mod Color
+pub mod Material
+pub mod Light

@@ -1,0 +1,56 @@
+-- Lights: the default one, and a light whose floats are f32 values.
+use Rattle.d3d9_types.specs.declared.light.D3DLIGHT9.{D3DLIGHT9}
+use Rattle.d3d9_types.specs.Numbers.{zero, one, floatFits, zero-fits, one-fits}
+use Rattle.d3d9_types.specs.Color.{black, colorFits, black-fits}
+use Rattle.d3d9_types.specs.Vector.{vectorFits}
+
+-- Document 01, 'Calls that change the state': directional (3), diffuse 1,1,1,0, direction 0,0,1, all else 0
+unfoldable pub defaultLight : D3DLIGHT9
+defaultLight =
+    record {
+      «type_» = 3;
+      diffuse = record { r = one; g = one; b = one; a = zero };
+      specular = black;
+      ambient = black;
+      position = record { x = zero; y = zero; z = zero };
+      direction = record { x = zero; y = zero; z = one };
+      range = zero;
+      falloff = zero;
+      attenuation0 = zero;
+      attenuation1 = zero;
+      attenuation2 = zero;
+      theta = zero;
+      phi = zero;
+    }
+
+pub record lightFits (l : D3DLIGHT9) : Type 0 where
+  pub diffuse : colorFits (l .diffuse)
+  pub specular : colorFits (l .specular)
+  pub ambient : colorFits (l .ambient)
+  pub position : vectorFits (l .position)
+  pub direction : vectorFits (l .direction)
+  pub range : floatFits (l .range)
+  pub falloff : floatFits (l .falloff)
+  pub attenuation0 : floatFits (l .attenuation0)
+  pub attenuation1 : floatFits (l .attenuation1)
+  pub attenuation2 : floatFits (l .attenuation2)
+  pub theta : floatFits (l .theta)
+  pub phi : floatFits (l .phi)
+
+pub defaultLight-fits : lightFits defaultLight
+unfolding defaultLight
+defaultLight-fits =
+    record {
+      diffuse = record { r = one-fits; g = one-fits; b = one-fits; a = zero-fits };
+      specular = black-fits;
+      ambient = black-fits;
+      position = record { x = zero-fits; y = zero-fits; z = zero-fits };
+      direction = record { x = zero-fits; y = zero-fits; z = one-fits };
+      range = zero-fits;
+      falloff = zero-fits;
+      attenuation0 = zero-fits;
+      attenuation1 = zero-fits;
+      attenuation2 = zero-fits;
+      theta = zero-fits;
+      phi = zero-fits;
+    }

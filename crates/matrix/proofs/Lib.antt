@@ -1,0 +1,4 @@
+pub mod Entries
+pub mod Fits
+mod Cofactors
+mod Examples
