@@ -1,0 +1,26 @@
+//! Links our library, and records the compiler, whose float sums the comparison leans on.
+
+use std::env;
+use std::path::PathBuf;
+use std::process::Command;
+
+fn main() {
+    let manifest = PathBuf::from(env::var_os("CARGO_MANIFEST_DIR").expect("set by cargo"));
+    let folder = manifest.join("../../target/staticlib");
+    println!(
+        "cargo:rerun-if-changed={}",
+        folder.join("libhost.a").display()
+    );
+    println!("cargo:rustc-link-search=native={}", folder.display());
+    println!("cargo:rustc-link-lib=static=host");
+    // The cosine's `%` is C's fmodf.
+    println!("cargo:rustc-link-lib=m");
+
+    let rustc = env::var_os("RUSTC").expect("set by cargo");
+    let answer = Command::new(rustc)
+        .arg("--version")
+        .output()
+        .expect("rustc runs");
+    let version = String::from_utf8(answer.stdout).expect("rustc's version is text");
+    println!("cargo:rustc-env=RUSTC_VERSION={}", version.trim());
+}

@@ -1,0 +1,140 @@
+//! The differential driver: our library beside the unchanged Rust, on inputs made from a seed.
+//! `oracle/run help` lists the commands.
+
+mod bend;
+mod bent;
+mod bytes;
+mod host;
+mod lengths;
+mod matrices;
+mod report;
+mod scalars;
+mod self_test;
+mod shrink;
+mod vectors;
+
+use std::hint::black_box;
+use std::process::ExitCode;
+
+use host::Host;
+use report::{Outcome, Run};
+
+const DIFFERENT: u8 = 1;
+const UNUSABLE: u8 = 2;
+
+struct Arguments {
+    command: String,
+    seed: u64,
+    count: Option<u64>,
+    host: Host,
+}
+
+fn arguments() -> Result<Arguments, String> {
+    let mut given = std::env::args().skip(1);
+    let mut arguments = Arguments {
+        command: given.next().ok_or("no command")?,
+        seed: 1,
+        count: None,
+        host: Host { bend: None },
+    };
+    while let Some(flag) = given.next() {
+        let value = given.next().ok_or(format!("{flag} lacks its value"))?;
+        let number = || {
+            value
+                .parse()
+                .map_err(|_| format!("{flag} {value}: not a number"))
+        };
+        match flag.as_str() {
+            "--seed" => arguments.seed = number()?,
+            "--count" => arguments.count = Some(number()?),
+            "--bend" => {
+                let bend = bend::named(&value).ok_or(format!("no bend {value}"))?;
+                arguments.host = Host { bend: Some(bend) };
+            }
+            _ => return Err(format!("no flag {flag}")),
+        }
+    }
+    Ok(arguments)
+}
+
+/// Document 01's sums start at -0.0, and so must the iterator sums of the compiler that built the
+/// Rust: `FfState::mat_mul` leans on them.
+fn sums_start_at_negative_zero() -> bool {
+    let zeros = black_box([-0.0f32; 4]);
+    zeros.iter().sum::<f32>().to_bits() == (-0.0f32).to_bits()
+}
+
+/// A mix of everything, small enough for the merge gate.
+fn short(run: &mut Run, host: Host) -> Result<Outcome, String> {
+    let vectors = [vectors::roots(run, host)?, vectors::cosines(run, host)?];
+    Ok(vectors
+        .into_iter()
+        .collect::<Outcome>()
+        .and_then(|()| scalars::roots(run, host, 6_000_000))
+        .and_then(|()| scalars::cosines(run, host, 2_000_000))
+        .and_then(|()| matrices::matrices(run, host, 400_000))
+        .and_then(|()| lengths::lengths(run, host)))
+}
+
+fn compare(run: &mut Run, arguments: &Arguments) -> Result<Outcome, String> {
+    let host = arguments.host;
+    let count = |default| arguments.count.unwrap_or(default);
+    Ok(match arguments.command.as_str() {
+        "short" => short(run, host)?,
+        "sqrt" => scalars::roots(run, host, count(50_000_000)),
+        "sqrt-all" => scalars::all_roots(run, host),
+        "cos" => scalars::cosines(run, host, count(20_000_000)),
+        "matrix" => matrices::matrices(run, host, count(5_000_000)),
+        "lengths" => lengths::lengths(run, host),
+        "root-vectors" => vectors::roots(run, host)?,
+        "cos-vectors" => {
+            let outcome = vectors::cosines(run, host)?;
+            if run.inputs() == 0 {
+                return Err("no vectors were compared".to_string());
+            }
+            outcome
+        }
+        other => return Err(format!("no command {other}; see oracle/run help")),
+    })
+}
+
+fn run() -> Result<ExitCode, String> {
+    let arguments = arguments()?;
+    if !sums_start_at_negative_zero() {
+        return Err(format!(
+            "float sums of {} do not start at -0.0; use the rustc that README.md names",
+            env!("RUSTC_VERSION")
+        ));
+    }
+    if arguments.command == "self-test" {
+        let bends = self_test::self_test()?;
+        println!("oracle: {bends} bends, all caught");
+        return Ok(ExitCode::SUCCESS);
+    }
+    let mut run = Run::new(arguments.seed);
+    let outcome = compare(&mut run, &arguments)?;
+    println!("{}; seed {}", env!("RUSTC_VERSION"), arguments.seed);
+    println!("{}", run.summary());
+    match outcome {
+        Ok(()) => {
+            println!("oracle: {} inputs, 0 differences", run.inputs());
+            Ok(ExitCode::SUCCESS)
+        }
+        Err(difference) => {
+            print!("{}", difference.text);
+            println!(
+                "oracle: {} inputs, a difference in {}",
+                run.inputs(),
+                difference.call
+            );
+            Ok(ExitCode::from(DIFFERENT))
+        }
+    }
+}
+
+fn main() -> ExitCode {
+    run().unwrap_or_else(|message| {
+        eprintln!("oracle: {message}");
+        ExitCode::from(UNUSABLE)
+    })
+}

@@ -1,0 +1,290 @@
+//! The numbers of d3d9types.h and d3d9caps.h, by the names they have there.
+
+macro_rules! numbers {
+    ($($ty:ty { $($name:ident = $value:expr,)* })*) => {
+        $($(pub const $name: $ty = $value;)*)*
+    };
+}
+
+/// One more than the highest D3DRS_* number (D3DRS_BLENDOPALPHA, 209).
+pub const RENDER_STATE_COUNT: usize = 210;
+/// One more than the highest D3DTSS_* number (D3DTSS_CONSTANT, 32).
+pub const TEXTURE_STAGE_STATE_COUNT: usize = 33;
+/// MAXSTREAMS of Direct3D 9 hardware.
+pub const MAX_STREAMS: u32 = 16;
+
+numbers! {
+    u32 {
+        D3DBLEND_ZERO = 1,
+        D3DBLEND_ONE = 2,
+        D3DBLEND_SRCCOLOR = 3,
+        D3DBLEND_INVSRCCOLOR = 4,
+        D3DBLEND_SRCALPHA = 5,
+        D3DBLEND_INVSRCALPHA = 6,
+        D3DBLEND_DESTALPHA = 7,
+        D3DBLEND_INVDESTALPHA = 8,
+        D3DBLEND_DESTCOLOR = 9,
+        D3DBLEND_INVDESTCOLOR = 10,
+        D3DBLEND_SRCALPHASAT = 11,
+        D3DBLEND_BOTHSRCALPHA = 12,
+        D3DBLEND_BOTHINVSRCALPHA = 13,
+        D3DBLEND_BLENDFACTOR = 14,
+        D3DBLEND_INVBLENDFACTOR = 15,
+    }
+    u32 {
+        D3DBLENDOP_ADD = 1,
+        D3DBLENDOP_SUBTRACT = 2,
+        D3DBLENDOP_REVSUBTRACT = 3,
+        D3DBLENDOP_MIN = 4,
+        D3DBLENDOP_MAX = 5,
+    }
+    u32 {
+        D3DCMP_NEVER = 1,
+        D3DCMP_LESS = 2,
+        D3DCMP_EQUAL = 3,
+        D3DCMP_LESSEQUAL = 4,
+        D3DCMP_GREATER = 5,
+        D3DCMP_NOTEQUAL = 6,
+        D3DCMP_GREATEREQUAL = 7,
+        D3DCMP_ALWAYS = 8,
+    }
+    u32 {
+        D3DCULL_NONE = 1,
+        D3DCULL_CW = 2,
+        D3DCULL_CCW = 3,
+    }
+    u16 {
+        D3DDECL_END_STREAM = 0xFF,
+    }
+    u8 {
+        D3DDECLMETHOD_DEFAULT = 0,
+    }
+    u8 {
+        D3DDECLTYPE_FLOAT1 = 0,
+        D3DDECLTYPE_FLOAT2 = 1,
+        D3DDECLTYPE_FLOAT3 = 2,
+        D3DDECLTYPE_FLOAT4 = 3,
+        D3DDECLTYPE_D3DCOLOR = 4,
+        D3DDECLTYPE_UBYTE4 = 5,
+        D3DDECLTYPE_SHORT2 = 6,
+        D3DDECLTYPE_SHORT4 = 7,
+        D3DDECLTYPE_UBYTE4N = 8,
+        D3DDECLTYPE_SHORT2N = 9,
+        D3DDECLTYPE_SHORT4N = 10,
+        D3DDECLTYPE_USHORT2N = 11,
+        D3DDECLTYPE_USHORT4N = 12,
+        D3DDECLTYPE_UDEC3 = 13,
+        D3DDECLTYPE_DEC3N = 14,
+        D3DDECLTYPE_FLOAT16_2 = 15,
+        D3DDECLTYPE_FLOAT16_4 = 16,
+    }
+    u8 {
+        D3DDECLUSAGE_POSITION = 0,
+        D3DDECLUSAGE_BLENDWEIGHT = 1,
+        D3DDECLUSAGE_BLENDINDICES = 2,
+        D3DDECLUSAGE_NORMAL = 3,
+        D3DDECLUSAGE_PSIZE = 4,
+        D3DDECLUSAGE_TEXCOORD = 5,
+        D3DDECLUSAGE_POSITIONT = 9,
+        D3DDECLUSAGE_COLOR = 10,
+    }
+    u32 {
+        D3DFILL_POINT = 1,
+        D3DFILL_WIREFRAME = 2,
+        D3DFILL_SOLID = 3,
+    }
+    u32 {
+        D3DFMT_A8R8G8B8 = 21,
+        D3DFMT_X8R8G8B8 = 22,
+        D3DFMT_R5G6B5 = 23,
+        D3DFMT_X1R5G5B5 = 24,
+        D3DFMT_A1R5G5B5 = 25,
+        D3DFMT_A4R4G4B4 = 26,
+        D3DFMT_A8 = 28,
+        D3DFMT_A2B10G10R10 = 31,
+        D3DFMT_A8B8G8R8 = 32,
+        D3DFMT_X8B8G8R8 = 33,
+        D3DFMT_G16R16 = 34,
+        D3DFMT_A2R10G10B10 = 35,
+        D3DFMT_A16B16G16R16 = 36,
+        D3DFMT_L8 = 50,
+        D3DFMT_V8U8 = 60,
+        D3DFMT_Q8W8V8U8 = 63,
+        D3DFMT_V16U16 = 64,
+        D3DFMT_Q16W16V16U16 = 110,
+        D3DFMT_R16F = 111,
+        D3DFMT_G16R16F = 112,
+        D3DFMT_A16B16G16R16F = 113,
+        D3DFMT_R32F = 114,
+        D3DFMT_G32R32F = 115,
+        D3DFMT_A32B32G32R32F = 116,
+    }
+    u32 {
+        D3DFVF_POSITION_MASK = 0x400E,
+        D3DFVF_XYZ = 0x002,
+        D3DFVF_XYZRHW = 0x004,
+        D3DFVF_XYZB1 = 0x006,
+        D3DFVF_XYZB2 = 0x008,
+        D3DFVF_XYZB3 = 0x00A,
+        D3DFVF_XYZB4 = 0x00C,
+        D3DFVF_XYZB5 = 0x00E,
+        D3DFVF_XYZW = 0x4002,
+        D3DFVF_NORMAL = 0x010,
+        D3DFVF_PSIZE = 0x020,
+        D3DFVF_DIFFUSE = 0x040,
+        D3DFVF_SPECULAR = 0x080,
+        D3DFVF_TEXCOUNT_MASK = 0xF00,
+        D3DFVF_TEXCOUNT_SHIFT = 8,
+        D3DFVF_LASTBETA_UBYTE4 = 0x1000,
+        D3DFVF_LASTBETA_D3DCOLOR = 0x8000,
+        D3DFVF_TEXTUREFORMAT1 = 3,
+        D3DFVF_TEXTUREFORMAT3 = 1,
+        D3DFVF_TEXTUREFORMAT4 = 2,
+    }
+    u32 {
+        D3DLIGHT_POINT = 1,
+        D3DLIGHT_SPOT = 2,
+        D3DLIGHT_DIRECTIONAL = 3,
+    }
+    u32 {
+        D3DPT_POINTLIST = 1,
+        D3DPT_LINELIST = 2,
+        D3DPT_LINESTRIP = 3,
+        D3DPT_TRIANGLELIST = 4,
+        D3DPT_TRIANGLESTRIP = 5,
+        D3DPT_TRIANGLEFAN = 6,
+    }
+    u32 {
+        D3DRS_SHADEMODE = 9,
+        D3DRS_ALPHATESTENABLE = 15,
+        D3DRS_ALPHAREF = 24,
+        D3DRS_ALPHAFUNC = 25,
+        D3DRS_FOGENABLE = 28,
+        D3DRS_SPECULARENABLE = 29,
+        D3DRS_FOGCOLOR = 34,
+        D3DRS_FOGTABLEMODE = 35,
+        D3DRS_FOGSTART = 36,
+        D3DRS_FOGEND = 37,
+        D3DRS_FOGDENSITY = 38,
+        D3DRS_RANGEFOGENABLE = 48,
+        D3DRS_TEXTUREFACTOR = 60,
+        D3DRS_LIGHTING = 137,
+        D3DRS_AMBIENT = 139,
+        D3DRS_FOGVERTEXMODE = 140,
+        D3DRS_COLORVERTEX = 141,
+        D3DRS_LOCALVIEWER = 142,
+        D3DRS_NORMALIZENORMALS = 143,
+        D3DRS_DIFFUSEMATERIALSOURCE = 145,
+        D3DRS_SPECULARMATERIALSOURCE = 146,
+        D3DRS_AMBIENTMATERIALSOURCE = 147,
+        D3DRS_EMISSIVEMATERIALSOURCE = 148,
+        D3DRS_VERTEXBLEND = 151,
+        D3DRS_POINTSPRITEENABLE = 156,
+        D3DRS_POINTSCALEENABLE = 157,
+        D3DRS_INDEXEDVERTEXBLENDENABLE = 167,
+        D3DRS_SRGBWRITEENABLE = 194,
+        D3DRS_DEPTHBIAS = 195,
+    }
+    u32 {
+        D3DSHADE_FLAT = 1,
+    }
+    u32 {
+        D3DSTENCILOP_KEEP = 1,
+        D3DSTENCILOP_ZERO = 2,
+        D3DSTENCILOP_REPLACE = 3,
+        D3DSTENCILOP_INCRSAT = 4,
+        D3DSTENCILOP_DECRSAT = 5,
+        D3DSTENCILOP_INVERT = 6,
+        D3DSTENCILOP_INCR = 7,
+        D3DSTENCILOP_DECR = 8,
+    }
+    u32 {
+        D3DTA_DIFFUSE = 0,
+        D3DTA_CURRENT = 1,
+        D3DTA_TEXTURE = 2,
+        D3DTA_TFACTOR = 3,
+        D3DTA_SPECULAR = 4,
+        D3DTA_TEMP = 5,
+        D3DTA_CONSTANT = 6,
+        D3DTA_SELECTMASK = 0x0F,
+        D3DTA_COMPLEMENT = 0x10,
+        D3DTA_ALPHAREPLICATE = 0x20,
+    }
+    u32 {
+        D3DTADDRESS_WRAP = 1,
+        D3DTADDRESS_MIRROR = 2,
+        D3DTADDRESS_CLAMP = 3,
+        D3DTADDRESS_BORDER = 4,
+        D3DTADDRESS_MIRRORONCE = 5,
+    }
+    u32 {
+        D3DTEXF_NONE = 0,
+        D3DTEXF_POINT = 1,
+        D3DTEXF_LINEAR = 2,
+        D3DTEXF_ANISOTROPIC = 3,
+    }
+    u32 {
+        D3DTOP_DISABLE = 1,
+        D3DTOP_SELECTARG1 = 2,
+        D3DTOP_SELECTARG2 = 3,
+        D3DTOP_MODULATE = 4,
+        D3DTOP_MODULATE2X = 5,
+        D3DTOP_MODULATE4X = 6,
+        D3DTOP_ADD = 7,
+        D3DTOP_ADDSIGNED = 8,
+        D3DTOP_ADDSIGNED2X = 9,
+        D3DTOP_SUBTRACT = 10,
+        D3DTOP_ADDSMOOTH = 11,
+        D3DTOP_BLENDDIFFUSEALPHA = 12,
+        D3DTOP_BLENDTEXTUREALPHA = 13,
+        D3DTOP_BLENDFACTORALPHA = 14,
+        D3DTOP_BLENDTEXTUREALPHAPM = 15,
+        D3DTOP_BLENDCURRENTALPHA = 16,
+        D3DTOP_MODULATEALPHA_ADDCOLOR = 18,
+        D3DTOP_MODULATECOLOR_ADDALPHA = 19,
+        D3DTOP_MODULATEINVALPHA_ADDCOLOR = 20,
+        D3DTOP_MODULATEINVCOLOR_ADDALPHA = 21,
+        D3DTOP_BUMPENVMAP = 22,
+        D3DTOP_BUMPENVMAPLUMINANCE = 23,
+        D3DTOP_DOTPRODUCT3 = 24,
+        D3DTOP_LERP = 26,
+    }
+    u32 {
+        D3DTS_VIEW = 2,
+        D3DTS_PROJECTION = 3,
+        D3DTS_TEXTURE0 = 16,
+        D3DTS_TEXTURE7 = 23,
+        D3DTS_WORLD = 256,
+    }
+    u32 {
+        D3DTSS_COLOROP = 1,
+        D3DTSS_COLORARG1 = 2,
+        D3DTSS_COLORARG2 = 3,
+        D3DTSS_ALPHAOP = 4,
+        D3DTSS_ALPHAARG1 = 5,
+        D3DTSS_ALPHAARG2 = 6,
+        D3DTSS_BUMPENVMAT00 = 7,
+        D3DTSS_BUMPENVMAT01 = 8,
+        D3DTSS_BUMPENVMAT10 = 9,
+        D3DTSS_BUMPENVMAT11 = 10,
+        D3DTSS_TEXCOORDINDEX = 11,
+        D3DTSS_BUMPENVLSCALE = 22,
+        D3DTSS_BUMPENVLOFFSET = 23,
+        D3DTSS_TEXTURETRANSFORMFLAGS = 24,
+        D3DTSS_COLORARG0 = 26,
+        D3DTSS_ALPHAARG0 = 27,
+        D3DTSS_RESULTARG = 28,
+        D3DTSS_CONSTANT = 32,
+    }
+    u32 {
+        D3DTTFF_PROJECTED = 256,
+    }
+    u32 {
+        D3DVBF_DISABLE = 0,
+        D3DVBF_1WEIGHTS = 1,
+        D3DVBF_2WEIGHTS = 2,
+        D3DVBF_3WEIGHTS = 3,
+        D3DVBF_TWEENING = 255,
+        D3DVBF_0WEIGHTS = 256,
+    }
+}
