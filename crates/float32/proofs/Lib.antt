@@ -1,2 +1,4 @@
 pub mod Branch
 pub mod Nan
+pub mod Laws
+mod Examples

@@ -113,18 +113,19 @@ fn root_bits(b: u32) -> u32
     scaled_root(0x80_0000 + b % 0x80_0000, field + 148)
 }
 
+// IEEE 754-2019: a zero and +infinity return themselves, any other negative and a NaN give NaN.
 pub fn sqrt(x: f32) -> f32
     ensures { λ r. ⌜ r ≡ sqrtOf x ⌝ }
 {
     let b = bits_of(x);
     if b % 0x8000_0000 == 0 {
-        return x;
+        return x; // either zero
     }
     if 0x8000_0000 < b {
         return 0.0 / 0.0;
     }
     if 0x7F80_0000 <= b {
-        return x;
+        return x; // +infinity, or a NaN
     }
     of_bits(root_bits(b))
 }
