@@ -1,0 +1,4 @@
+pub mod Little
+pub mod Put
+pub mod Float
+pub mod Matrix
