@@ -1,6 +1,6 @@
 -- `codec::little::u32_at` meets its contract. The four bytes make the number by `number-four`, and being below 256 each keeps every step within a u32.
 -- Assumes nothing.
-use Rattle.codec.proofs.little.Laws.{number-four}
+use Rattle.codec.proofs.Laws.Little.{number-four}
 use borrow.Author.Needs.{needs}
 use Rattle.codec.proofs.little.u32_at.Statement.{statement}
 use Rattle.codec.proofs.little.u32_at.Tie as tie

@@ -2,7 +2,7 @@
 -- Assumes nothing.
 use Prim.Native.Nat.{ℕ}
 use native.Mathlib.Nat.{add-assoc}
-use mathlib.Core.Path.{_≡_, refl}
+use mathlib.Core.Path.{_≡_, refl, sym, _∙_}
 use mathlib.Core.List.{List, flatten}
 use lib.ListN.{length}
 use Rattle.d3d9_types.specs.Matrix.{rowFits, matrixFits}
@@ -11,8 +11,10 @@ use Rattle.d3d9_types.specs.declared.matrix.D3DMATRIX.{D3DMATRIX}
 use Rattle.codec.specs.Little.{littleBytes}
 use Rattle.codec.specs.Float.{floatBytes, floatAt}
 use Rattle.codec.specs.Matrix.{rowBytes, rowAt, matrixBytes, matrixAt}
+use Rattle.codec.specs.Put.{put}
+use Rattle.codec.proofs.Put.{put-whole}
 use Rattle.codec.proofs.Inside.{Skips, Starts}
-use Rattle.codec.proofs.float.Laws.{again, again-is, floatAt-skips, floatAt-fits}
+use Rattle.codec.proofs.Laws.Float.{again, again-is, floatAt-skips, floatAt-fits}
 
 pub length-rowBytes : (r : Row) → length (rowBytes r) ≡ 16
 unfolding rowBytes flatten floatBytes littleBytes
@@ -21,6 +23,10 @@ length-rowBytes r = refl
 pub length-matrixBytes : (m : D3DMATRIX) → length (matrixBytes m) ≡ 64
 unfolding matrixBytes rowBytes flatten floatBytes littleBytes
 length-matrixBytes m = refl
+
+-- put over 64 bytes, nothing of them is left
+pub put-matrixBytes : (m : D3DMATRIX) (out : List ℕ) → length out ≡ 64 → put 0 (matrixBytes m) out ≡ matrixBytes m
+put-matrixBytes m out e = put-whole (matrixBytes m) out (e ∙ sym (length-matrixBytes m))
 
 pub rowAt-skips : Skips rowAt
 unfolding rowAt

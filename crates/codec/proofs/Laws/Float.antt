@@ -9,7 +9,7 @@ use lib.Seq.{drop-append-add}
 use Rattle.d3d9_types.specs.Numbers.{floatFits}
 use Rattle.codec.specs.Little.{littleBytes, littleNumber, numberAt}
 use Rattle.codec.specs.Float.{floatBytes, floatAt}
-use Rattle.codec.proofs.little.Laws.{littleNumber-littleBytes}
+use Rattle.codec.proofs.Laws.Little.{littleNumber-littleBytes}
 use Rattle.codec.proofs.Inside.{Skips, Starts}
 
 -- what the bytes of x read as
