@@ -1,4 +1,4 @@
-// Numbers of four bytes. Straight-line, so that the compiler makes one load or one store of it.
+// Numbers of four bytes.
 ghost use mathlib.Core.Path.{_≡_};
 ghost use Prim.Native.Nat.{_+_, _≤_, _<_};
 ghost use lib.ListN.{length, getD};
@@ -12,15 +12,13 @@ fn byte_at(s: &[u8], i: usize) -> u32
     s[i] as u32
 }
 
+// The part first, then its bytes at fixed places: the compiler makes one load of that.
 pub fn u32_at(s: &[u8], at: usize) -> u32
     requires { ⌜ at + 4 ≤ length (now s) ⌝ }
     ensures { λ r. ⌜ r ≡ numberAt 4 (now (s .entry)) at ⌝ }
 {
-    let b0 = byte_at(s, at);
-    let b1 = byte_at(s, at + 1);
-    let b2 = byte_at(s, at + 2);
-    let b3 = byte_at(s, at + 3);
-    b0 + 256 * (b1 + 256 * (b2 + 256 * b3))
+    let t = &s[at..at + 4];
+    byte_at(t, 0) + 0x100 * byte_at(t, 1) + 0x1_0000 * byte_at(t, 2) + 0x100_0000 * byte_at(t, 3)
 }
 
 pub fn put_u32(dst: &mut [u8], at: usize, n: u32)

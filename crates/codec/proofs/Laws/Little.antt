@@ -1,14 +1,12 @@
 -- Bytes to a number and back, over the width.
 -- Assumes nothing.
-use Prim.Native.Nat.{ℕ, zero, suc, _+_, _*_, _/_, _%_, _^_, _≤_, _<_}
-use native.Mathlib.Nat.{add-assoc, add-zero, pow-suc, div-lt-iff-lt-mul}
-use native.Mathlib.Numerals.{add-one}
+use Prim.Native.Nat.{ℕ, zero, suc, _+_, _*_, _/_, _%_, _^_, _<_}
+use native.Mathlib.Nat.{pow-suc, div-lt-iff-lt-mul}
 use native.Mathlib.Omega.{arith}
 use mathlib.Core.Path.{_≡_, refl, sym, ap, ap₂, _∙_}
 use mathlib.Core.List.{List, [], _∷_}
-use lib.ListN.{length, getD, take, drop}
-use lib.Seq.{drop-cons}
-use Rattle.codec.specs.Little.{littleBytes, littleNumber, numberAt, Bytes}
+use lib.ListN.{length, getD}
+use Rattle.codec.specs.Little.{littleBytes, littleNumber, Bytes}
 
 pub length-littleBytes : (k n : ℕ) → length (littleBytes k n) ≡ k
 unfolding littleBytes
@@ -32,18 +30,12 @@ littleBytes-littleNumber (b ∷ bs) h =
     let high : (b + 256 * littleNumber bs) / 256 ≡ littleNumber bs = omega arith in
     rw (low, high, littleBytes-littleNumber bs (λ (i : ℕ). h (suc i)))
 
--- one byte more
-pub number-step : (k : ℕ) (s : List ℕ) (at : ℕ) → at < length s → numberAt (suc k) s at ≡ getD s at 0 + 256 * numberAt k s (at + 1)
+-- four bytes, written out
+pub number-of-four : (t : List ℕ) → length t ≡ 4 → getD t 0 0 + 0x100 * getD t 1 0 + 0x1_0000 * getD t 2 0 + 0x100_0000 * getD t 3 0 ≡ littleNumber t
 unfolding littleNumber
-number-step k s at h = rw (add-one, drop-cons s at 0 h)
-
-pub number-four : (s : List ℕ) (at : ℕ) → at + 4 ≤ length s
-    → getD s at 0 + 256 * (getD s (at + 1) 0 + 256 * (getD s (at + 2) 0 + 256 * getD s (at + 3) 0)) ≡ numberAt 4 s at
-unfolding littleNumber
-number-four s at h =
-    let h₀ : at < length s = omega arith in
-    let h₁ : at + 1 < length s = omega arith in
-    let h₂ : at + 1 + 1 < length s = omega arith in
-    let h₃ : at + 1 + 1 + 1 < length s = omega arith in
-    rw (number-step 3 s at h₀, number-step 2 s (at + 1) h₁, number-step 1 s (at + 1 + 1) h₂, number-step 0 s (at + 1 + 1 + 1) h₃)
-    (simp (add-assoc, add-zero))
+number-of-four [] h = absurd (omega arith)
+number-of-four (a ∷ []) h = absurd (omega arith)
+number-of-four (a ∷ b ∷ []) h = absurd (omega arith)
+number-of-four (a ∷ b ∷ c ∷ []) h = absurd (omega arith)
+number-of-four (a ∷ b ∷ c ∷ d ∷ []) h = omega arith
+number-of-four (a ∷ b ∷ c ∷ d ∷ e ∷ t) h = absurd (omega arith)
