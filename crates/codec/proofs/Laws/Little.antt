@@ -1,12 +1,14 @@
 -- Bytes to a number and back, over the width.
 -- Assumes nothing.
 use Prim.Native.Nat.{ℕ, zero, suc, _+_, _*_, _/_, _%_, _^_, _<_}
-use native.Mathlib.Nat.{pow-suc, div-lt-iff-lt-mul}
+use native.Mathlib.Nat.{one-le-pow, pow-suc, div-lt-iff-lt-mul}
 use native.Mathlib.Omega.{arith}
 use mathlib.Core.Path.{_≡_, refl, sym, ap, ap₂, _∙_}
 use mathlib.Core.List.{List, [], _∷_}
-use lib.ListN.{length, getD}
-use Rattle.codec.specs.Little.{littleBytes, littleNumber, Bytes}
+use lib.ListN.{length, getD, take, drop}
+use lib.Seq.{getD-drop, drop-append-add}
+use Rattle.codec.specs.Little.{littleBytes, littleNumber, numberAt, Bytes}
+use Rattle.codec.proofs.Inside.{Skips}
 
 pub length-littleBytes : (k n : ℕ) → length (littleBytes k n) ≡ k
 unfolding littleBytes
@@ -39,3 +41,19 @@ number-of-four (a ∷ b ∷ []) h = absurd (omega arith)
 number-of-four (a ∷ b ∷ c ∷ []) h = absurd (omega arith)
 number-of-four (a ∷ b ∷ c ∷ d ∷ []) h = omega arith
 number-of-four (a ∷ b ∷ c ∷ d ∷ e ∷ t) h = absurd (omega arith)
+
+pub numberAt-skips : (k : ℕ) → Skips (numberAt k)
+numberAt-skips k p q n = rw drop-append-add
+
+-- k bytes make a number of k bytes
+front-lt : (k : ℕ) (bs : List ℕ) → Bytes bs → littleNumber (take k bs) < 256 ^ k
+unfolding littleNumber
+front-lt zero bs h = omega arith
+front-lt (suc k) [] h = one-le-pow (suc k) 256 (omega arith)
+front-lt (suc k) (b ∷ bs) h =
+    let small : b < 256 = h 0 in
+    let rest : littleNumber (take k bs) < 256 ^ k = front-lt k bs (λ (i : ℕ). h (suc i)) in
+    rw pow-suc (omega arith)
+
+pub numberAt-lt : (k : ℕ) (bytes : List ℕ) (at : ℕ) → Bytes bytes → numberAt k bytes at < 256 ^ k
+numberAt-lt k bytes at h = front-lt k (drop at bytes) (λ (i : ℕ). rw getD-drop (h (at + i)))

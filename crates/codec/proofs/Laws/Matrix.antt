@@ -37,10 +37,10 @@ unfolding matrixAt
 matrixAt-skips p q n = simp (add-assoc, rowAt-skips)
 
 -- what the bytes of a row read as
-abbrev rowAgain : Row → Row
+abbrev pub rowAgain : Row → Row
 rowAgain r = record { x = again (r .x); y = again (r .y); z = again (r .z); w = again (r .w) }
 
-rowAgain-is : {r : Row} → rowFits r → rowAgain r ≡ r
+pub rowAgain-is : {r : Row} → rowFits r → rowAgain r ≡ r
 rowAgain-is h = rw (again-is (h .x), again-is (h .y), again-is (h .z), again-is (h .w))
 
 matrixAgain-is : {m : D3DMATRIX} → matrixFits m
