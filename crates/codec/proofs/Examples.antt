@@ -16,7 +16,7 @@ use Rattle.codec.specs.Matrix.{rowBytes, matrixBytes}
 use Rattle.codec.specs.Color.{colorBytes}
 use Rattle.codec.specs.Vector.{vectorBytes}
 use Rattle.codec.specs.Material.{materialBytes}
-use Rattle.codec.specs.Light.{lightParts, lightBytes}
+use Rattle.codec.specs.Light.{lightBytes}
 
 least-byte-first : littleBytes 4 0x0A0B_0C0D ≡ 0x0D ∷ 0x0C ∷ 0x0B ∷ 0x0A ∷ []
 unfolding littleBytes
@@ -88,5 +88,5 @@ module _ (a b c d e f g h i j k l m n o p q r s t u v w x y : Float) where
       })
       ≡ littleBytes 4 type
       ++ flatten (map floatBytes (a ∷ b ∷ c ∷ d ∷ e ∷ f ∷ g ∷ h ∷ i ∷ j ∷ k ∷ l ∷ m ∷ n ∷ o ∷ p ∷ q ∷ r ∷ s ∷ t ∷ u ∷ v ∷ w ∷ x ∷ y ∷ []))
-  unfolding lightBytes lightParts colorBytes rowBytes vectorBytes flatten floatBytes littleBytes
+  unfolding lightBytes colorBytes rowBytes vectorBytes flatten floatBytes littleBytes
   light-order type = refl

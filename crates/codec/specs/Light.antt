@@ -7,10 +7,11 @@ use Rattle.codec.specs.Float.{floatBytes, floatAt}
 use Rattle.codec.specs.Color.{colorBytes, colorAt}
 use Rattle.codec.specs.Vector.{vectorBytes, vectorAt}
 
--- what follows the type
-unfoldable pub lightParts : D3DLIGHT9 → List (List ℕ)
-lightParts l =
-    colorBytes (l .diffuse)
+unfoldable pub lightBytes : D3DLIGHT9 → List ℕ
+lightBytes l =
+    flatten
+    (littleBytes 4 (l .«type_»)
+    ∷ colorBytes (l .diffuse)
     ∷ colorBytes (l .specular)
     ∷ colorBytes (l .ambient)
     ∷ vectorBytes (l .position)
@@ -22,10 +23,7 @@ lightParts l =
     ∷ floatBytes (l .attenuation2)
     ∷ floatBytes (l .theta)
     ∷ floatBytes (l .phi)
-    ∷ []
-
-unfoldable pub lightBytes : D3DLIGHT9 → List ℕ
-lightBytes l = flatten (littleBytes 4 (l .«type_») ∷ lightParts l)
+    ∷ [])
 
 unfoldable pub lightAt : List ℕ → ℕ → D3DLIGHT9
 lightAt bytes at =

@@ -13,7 +13,7 @@ use Rattle.codec.specs.Float.{floatBytes, floatAt}
 use Rattle.codec.specs.Matrix.{rowBytes, rowAt}
 use Rattle.codec.specs.Color.{colorBytes, colorAt}
 use Rattle.codec.specs.Vector.{vectorBytes, vectorAt}
-use Rattle.codec.specs.Light.{lightParts, lightBytes, lightAt}
+use Rattle.codec.specs.Light.{lightBytes, lightAt}
 use Rattle.codec.proofs.Put.{put-whole}
 use Rattle.codec.proofs.Inside.{Skips, Starts}
 use Rattle.codec.proofs.Laws.Little.{littleNumber-littleBytes, numberAt-skips, numberAt-lt}
@@ -22,7 +22,7 @@ use Rattle.codec.proofs.Laws.Color.{colorAgain, colorAgain-is, colorAt-
 use Rattle.codec.proofs.Laws.Vector.{vectorAgain, vectorAgain-is, vectorAt-skips, vectorAt-fits}
 
 pub length-lightBytes : (l : D3DLIGHT9) → length (lightBytes l) ≡ 104
-unfolding lightBytes lightParts colorBytes rowBytes vectorBytes flatten floatBytes littleBytes
+unfolding lightBytes colorBytes rowBytes vectorBytes flatten floatBytes littleBytes
 length-lightBytes l = refl
 
 pub put-lightBytes : (l : D3DLIGHT9) (out : List ℕ) → length out ≡ 104 → put 0 (lightBytes l) out ≡ lightBytes l
@@ -67,7 +67,7 @@ again-is-it {l} h =
     )
 
 pub lightAt-starts : {l : D3DLIGHT9} → lightFits l → Starts lightAt (lightBytes l) l
-unfolding lightAt colorAt rowAt vectorAt lightBytes lightParts colorBytes rowBytes vectorBytes flatten floatAt floatBytes littleBytes
+unfolding lightAt colorAt rowAt vectorAt lightBytes colorBytes rowBytes vectorBytes flatten floatAt floatBytes littleBytes
 lightAt-starts h rest = again-is-it h
 
 pub lightAt-fits : (bytes : List ℕ) (at : ℕ) → Bytes bytes → lightFits (lightAt bytes at)

@@ -9,7 +9,7 @@ use Rattle.codec.specs.Float.{floatBytes}
 use Rattle.codec.specs.Matrix.{rowBytes}
 use Rattle.codec.specs.Color.{colorBytes}
 use Rattle.codec.specs.Vector.{vectorBytes}
-use Rattle.codec.specs.Light.{lightParts, lightBytes}
+use Rattle.codec.specs.Light.{lightBytes}
 use Rattle.codec.proofs.Put.{puts-are}
 use borrow.Author.Needs.{needs}
 use Rattle.codec.proofs.light.put_light.Statement.{statement}
@@ -64,7 +64,7 @@ same-length : tie.Need-same-length
 same-length c = search needs
 
 returns : tie.Need-returns
-unfolding flatten lightBytes lightParts colorBytes rowBytes vectorBytes floatBytes littleBytes
+unfolding flatten lightBytes colorBytes rowBytes vectorBytes floatBytes littleBytes
 returns c =
     let c₈ = c .before .before in
     let c₇ = c₈ .before .before .before .before in
