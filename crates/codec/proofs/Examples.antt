@@ -3,12 +3,11 @@
 use Prim.Native.Nat.{ℕ}
 use mathlib.Core.Path.{_≡_, refl}
 use mathlib.Core.Bool.{true, false}
-use mathlib.Core.List.{List, [], _∷_, _++_, map, flatten}
+use mathlib.Core.List.{[], _∷_, _++_, map, flatten}
 use lib.IntN.{pos}
-use lib.Ieee.{Float, nan, fin, binary32, toBits, ofBits}
+use lib.Ieee.{Float, nan, fin, toBits, ofBits}
 use Rattle.d3d9_types.specs.declared.matrix.Row.{Row}
 use Rattle.d3d9_types.specs.declared.color.D3DCOLORVALUE.{D3DCOLORVALUE}
-use Rattle.d3d9_types.specs.declared.vector.D3DVECTOR.{D3DVECTOR}
 use Rattle.codec.specs.Little.{littleBytes, littleNumber, numberAt}
 use Rattle.codec.specs.Put.{put}
 use Rattle.codec.specs.Float.{floatBytes, floatAt}

@@ -5,7 +5,7 @@ use native.Mathlib.Nat.{zero-add, suc-add, add-assoc}
 use native.Mathlib.Omega.{arith}
 use mathlib.Core.Path.{_≡_, refl, sym, ap, _∙_}
 use mathlib.Core.List.{List, [], _∷_, _++_, append-assoc, append-nil, flatten}
-use lib.ListN.{length, take, drop, set, length-append, length-drop, drop-of-length-le, take-append-drop}
+use lib.ListN.{length, take, drop, set, length-append, length-drop, drop-of-length-le}
 use lib.Seq.{sets, sets-eq, length-take-le, take-append-le, take-take, take-nil, take-at, drop-nil, drop-at, drop-drop}
 use Rattle.codec.specs.Put.{put}
 

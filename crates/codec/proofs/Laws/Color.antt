@@ -1,8 +1,8 @@
 -- A colour of f32 values comes back from its bytes, and what is read is one.
 -- Assumes nothing.
 use Prim.Native.Nat.{ℕ}
-use mathlib.Core.Path.{_≡_, refl, ap}
-use mathlib.Core.List.{List, flatten}
+use mathlib.Core.Path.{_≡_, ap}
+use mathlib.Core.List.{List}
 use lib.ListN.{length}
 use Rattle.d3d9_types.specs.Color.{colorRow, rowColor, colorFits, colorRow-fits, rowColor-fits}
 use Rattle.d3d9_types.specs.declared.color.D3DCOLORVALUE.{D3DCOLORVALUE}

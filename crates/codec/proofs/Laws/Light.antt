@@ -1,13 +1,13 @@
 -- A light that fits comes back from its bytes, and what is read from bytes is one.
 -- Assumes nothing.
-use Prim.Native.Nat.{ℕ, _^_, _<_}
+use Prim.Native.Nat.{ℕ}
 use native.Mathlib.Nat.{add-assoc}
 use mathlib.Core.Path.{_≡_, refl, sym, _∙_}
 use mathlib.Core.List.{List, flatten}
 use lib.ListN.{length}
 use Rattle.d3d9_types.specs.Light.{lightFits}
 use Rattle.d3d9_types.specs.declared.light.D3DLIGHT9.{D3DLIGHT9}
-use Rattle.codec.specs.Little.{littleBytes, littleNumber, numberAt, Bytes}
+use Rattle.codec.specs.Little.{littleBytes, littleNumber, Bytes}
 use Rattle.codec.specs.Put.{put}
 use Rattle.codec.specs.Float.{floatBytes, floatAt}
 use Rattle.codec.specs.Matrix.{rowBytes, rowAt}

@@ -1,6 +1,6 @@
 -- `host::matrices::ff_inverse` meets its contract. Each length test decides the number in its order, then the answer of `inverse` does, and where it is a matrix its 64 bytes stand over the whole of `out`.
 -- Assumes nothing.
-use mathlib.Core.Path.{_≡_, sym, ap, _∙_}
+use mathlib.Core.Path.{sym, ap, _∙_}
 use Rattle.codec.proofs.Laws.Matrix.{put-matrixBytes}
 use Rattle.host.specs.Answer.{orNext}
 use Rattle.host.proofs.Answers.{length-right, length-wrong, refused, accepted}

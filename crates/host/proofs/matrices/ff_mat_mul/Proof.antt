@@ -1,6 +1,6 @@
 -- `host::matrices::ff_mat_mul` meets its contract. Each length test decides the number in its order, and past them the 64 bytes of the product stand over the whole of `out`.
 -- Assumes nothing.
-use mathlib.Core.Path.{_≡_, ap, ap₂, _∙_}
+use mathlib.Core.Path.{ap, ap₂, _∙_}
 use Rattle.matrix.specs.Product.{matMul}
 use Rattle.codec.specs.Matrix.{matrixBytes}
 use Rattle.codec.proofs.Laws.Matrix.{put-matrixBytes}

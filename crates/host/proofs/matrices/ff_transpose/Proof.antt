@@ -1,6 +1,6 @@
 -- `host::matrices::ff_transpose` meets its contract. Each length test decides the number in its order, and past them the 64 bytes of the transpose stand over the whole of `out`.
 -- Assumes nothing.
-use mathlib.Core.Path.{_≡_, ap, _∙_}
+use mathlib.Core.Path.{ap, _∙_}
 use Rattle.codec.specs.Matrix.{matrixBytes}
 use Rattle.codec.proofs.Laws.Matrix.{put-matrixBytes}
 use Rattle.host.specs.Answer.{orNext}
