@@ -1,4 +1,6 @@
--- Lights: the default one, and a light whose floats are f32 values.
+-- Lights: the default one, and a light whose type is a u32 and whose floats are f32 values.
+use Prim.Native.Nat.{_<_, _^_}
+use lib.Dec.{lit<}
 use Rattle.d3d9_types.specs.declared.light.D3DLIGHT9.{D3DLIGHT9}
 use Rattle.d3d9_types.specs.Numbers.{zero, one, floatFits, zero-fits, one-fits}
 use Rattle.d3d9_types.specs.Color.{black, colorFits, black-fits}
@@ -24,6 +26,7 @@ defaultLight =
     }
 
 pub record lightFits (l : D3DLIGHT9) : Type 0 where
+  pub «type_» : l .«type_» < 2 ^ 32
   pub diffuse : colorFits (l .diffuse)
   pub specular : colorFits (l .specular)
   pub ambient : colorFits (l .ambient)
@@ -41,6 +44,7 @@ pub defaultLight-fits : lightFits defaultLight
 unfolding defaultLight
 defaultLight-fits =
     record {
+      «type_» = lit< tt;
       diffuse = record { r = one-fits; g = one-fits; b = one-fits; a = zero-fits };
       specular = black-fits;
       ambient = black-fits;

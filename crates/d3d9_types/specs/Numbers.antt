@@ -1,5 +1,5 @@
 -- The floats 0 and 1, and what it is to be an f32 value.
-use mathlib.Core.Bool.{true, false}
+use mathlib.Core.Bool.{false}
 use lib.IntN.{pos}
 use lib.Dec.{T}
 use lib.Ieee.{Float, fin, binary32, fits}

@@ -7,6 +7,8 @@ mod transform;
 mod vector;
 
 pub use color::D3DCOLORVALUE;
+pub use color::color_row;
+pub use color::row_color;
 pub use light::D3DLIGHT_DIRECTIONAL;
 pub use light::D3DLIGHT_POINT;
 pub use light::D3DLIGHT_SPOT;

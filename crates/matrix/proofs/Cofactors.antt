@@ -8,7 +8,6 @@ use Rattle.d3d9_types.specs.Numbers.{zero, one}
 use Rattle.d3d9_types.specs.declared.matrix.Row.{Row}
 use Rattle.d3d9_types.specs.declared.matrix.D3DMATRIX.{D3DMATRIX}
 use Rattle.matrix.specs.declared.inversion.Minors.{Minors}
-use Rattle.matrix.specs.declared.answer.Inverse.{Inverse}
 use Rattle.matrix.specs.declared.answer.Inverse.the-variants.{Matrix, Singular}
 use Rattle.matrix.specs.Entry.{column, row, matrixOf}
 use Rattle.matrix.specs.Sum.{times}

@@ -2,16 +2,16 @@
 -- Assumes nothing.
 use Prim.Native.Nat.{ℕ, _^_}
 use mathlib.Core.Path.{_≡_, refl}
-use mathlib.Core.Bool.{true, false}
+use mathlib.Core.Bool.{false}
 use mathlib.Core.List.{[], _∷_}
-use lib.IntN.{ℤ, pos, negsuc}
-use lib.Ieee.{Float, inf, fin, binary32, add, mul, sub, div, neg, eq, ofInt}
+use lib.IntN.{pos, negsuc}
+use lib.Ieee.{Float, fin, binary32, add, mul, sub, div, neg, eq, ofInt}
 use Rattle.d3d9_types.specs.Numbers.{zero, one}
 use Rattle.d3d9_types.specs.Matrix.{identity}
 use Rattle.d3d9_types.specs.declared.matrix.Row.{Row}
 use Rattle.d3d9_types.specs.declared.matrix.D3DMATRIX.{D3DMATRIX}
 use Rattle.d3d9_types.specs.declared.vector.D3DVECTOR.{D3DVECTOR}
-use Rattle.matrix.specs.declared.answer.Inverse.the-variants.{Matrix, Singular}
+use Rattle.matrix.specs.declared.answer.Inverse.the-variants.{Matrix}
 use Rattle.matrix.specs.Entry.{column, row, matrixOf, vectorOf}
 use Rattle.matrix.specs.Sum.{sumFrom, sum}
 use Rattle.matrix.specs.Product.{dot, matMul}

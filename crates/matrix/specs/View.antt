@@ -1,5 +1,5 @@
 -- Positions and directions of lights in view space, as row vectors. Document 01, 'Rows of a section'.
-use mathlib.Core.List.{List, [], _∷_}
+use mathlib.Core.List.{[], _∷_}
 use Rattle.d3d9_types.specs.declared.matrix.D3DMATRIX.{D3DMATRIX}
 use Rattle.d3d9_types.specs.declared.vector.D3DVECTOR.{D3DVECTOR}
 use Rattle.matrix.specs.Entry.{entry, vectorOf}

@@ -1,6 +1,6 @@
 -- `matrix::inversion::inverse` meets its contract. The steps make the determinant and the columns of the definition (`Cofactors`), and the two tests are those that its answer turns on.
 -- Assumes nothing.
-use mathlib.Core.Path.{_≡_, sym, _∙_}
+use mathlib.Core.Path.{sym, _∙_}
 use lib.Ieee.{ofBits}
 use Rattle.matrix.proofs.Cofactors.{determinant-kept, columns-made, refused-zero, refused-infinite, accepted}
 use borrow.Author.Needs.{needs}

@@ -1,0 +1,4 @@
+pub mod Put
+pub mod Inside
+pub mod Laws
+mod Examples

@@ -1,0 +1,103 @@
+-- What `put` leaves: its length, a run of stores, two parts one after the other, and what is read where it wrote, before and behind.
+-- Assumes nothing.
+use Prim.Native.Nat.{ℕ, zero, suc, _+_, _-_, _≤_}
+use native.Mathlib.Nat.{zero-add, suc-add, add-assoc}
+use native.Mathlib.Omega.{arith}
+use mathlib.Core.Path.{_≡_, refl, sym, ap, _∙_}
+use mathlib.Core.List.{List, [], _∷_, _++_, append-assoc, append-nil, flatten}
+use lib.ListN.{length, take, drop, set, length-append, length-drop, drop-of-length-le}
+use lib.Seq.{sets, sets-eq, length-take-le, take-append-le, take-take, take-nil, take-at, drop-nil, drop-at, drop-drop}
+use Rattle.codec.specs.Put.{put}
+
+take-drop : (k n : ℕ) (l : List ℕ) → take k (drop n l) ≡ drop n (take (n + k) l)
+take-drop k zero l = rw zero-add
+take-drop k (suc n) [] = simp (take-nil, drop-nil)
+take-drop k (suc n) (x ∷ l) = rw suc-add (take-drop k n l)
+
+-- stores one after the other
+pub put-sets : (at : ℕ) (vs m : List ℕ) → at + length vs ≤ length m → sets m at vs ≡ put at vs m
+unfolding put
+put-sets at vs m h = sets-eq vs m at h ∙ simp (append-assoc, ← drop-drop)
+
+pub four-stores : (at : ℕ) (m : List ℕ) (a b c d : ℕ) → at + 4 ≤ length m
+    → set (set (set (set m at a) (at + 1) b) (at + 2) c) (at + 3) d ≡ put at (a ∷ b ∷ c ∷ d ∷ []) m
+four-stores at m a b c d h =
+    let e₁ : at + 1 ≡ suc at = omega arith in
+    let e₂ : at + 2 ≡ suc (suc at) = omega arith in
+    let e₃ : at + 3 ≡ suc (suc (suc at)) = omega arith in
+    rw (e₁, e₂, e₃) (put-sets at (a ∷ b ∷ c ∷ d ∷ []) m h)
+
+module _ (at : ℕ) (vs m : List ℕ) (room : at + length vs ≤ length m) where
+  head-length : length (take at m) ≡ at
+  head-length = length-take-le at m (omega arith)
+
+  pub length-put : length (put at vs m) ≡ length m
+  unfolding put
+  length-put = simp (length-append, length-drop, head-length) (omega arith)
+
+  -- what was put, and the rest behind it
+  pub drop-put : drop at (put at vs m) ≡ vs ++ drop (length vs) (drop at m)
+  unfolding put
+  drop-put = drop-at (take at m) (vs ++ drop (length vs) (drop at m)) at head-length
+
+  pub read-put : take (length vs) (drop at (put at vs m)) ≡ vs
+  read-put = rw drop-put (take-at vs (drop (length vs) (drop at m)) (length vs) refl)
+
+  before : (n : ℕ) → n ≤ at → take n (put at vs m) ≡ take n m
+  unfolding put
+  before n h = take-append-le n (take at m) (vs ++ drop (length vs) (drop at m)) (rw head-length h) ∙ take-take n at m h
+
+  -- the k elements from n on, all of them before what was put
+  pub read-before : (k n : ℕ) → n + k ≤ at → take k (drop n (put at vs m)) ≡ take k (drop n m)
+  read-before k n h =
+      take-drop k n (put at vs m) ∙ ap (λ (l : List ℕ). drop n l) (before (n + k) h) ∙ sym (take-drop k n m)
+
+  take-seam : take (at + length vs) (put at vs m) ≡ take at m ++ vs
+  unfolding put
+  take-seam =
+      let long : length (take at m ++ vs) ≡ at + length vs = simp (length-append, head-length) in
+      rw (← append-assoc) (take-at (take at m ++ vs) (drop (length vs) (drop at m)) (at + length vs) long)
+
+  drop-seam : drop (at + length vs) (put at vs m) ≡ drop (at + length vs) m
+  drop-seam =
+      sym (drop-drop (length vs) at (put at vs m))
+      ∙ ap (λ (l : List ℕ). drop (length vs) l) drop-put
+      ∙ drop-at vs (drop (length vs) (drop at m)) (length vs) refl
+      ∙ drop-drop (length vs) at m
+
+  pub drop-behind : (n : ℕ) → at + length vs ≤ n → drop n (put at vs m) ≡ drop n m
+  drop-behind n h =
+      let s : ℕ = at + length vs in
+      let t : ℕ = n - s in
+      let e : n ≡ s + t = omega arith in
+      ap (λ (k : ℕ). drop k (put at vs m)) e
+      ∙ sym (drop-drop t s (put at vs m))
+      ∙ ap (λ (l : List ℕ). drop t l) drop-seam
+      ∙ drop-drop t s m
+      ∙ ap (λ (k : ℕ). drop k m) (sym e)
+
+pub put-append : (at : ℕ) (vs ws m : List ℕ) → at + (length vs + length ws) ≤ length m → put at (vs ++ ws) m ≡ put (at + length vs) ws (put at vs m)
+unfolding put
+put-append at vs ws m h =
+    let room : at + length vs ≤ length m = omega arith in
+    rw (take-seam at vs m room, drop-seam at vs m room) (simp (length-append, drop-drop, append-assoc, add-assoc))
+
+-- parts one after the other, the first of them o behind `at`
+abbrev pub puts : ℕ → ℕ → List (List ℕ) → List ℕ → List ℕ
+puts at o [] m = m
+puts at o (v ∷ vs) m = puts at (o + length v) vs (put (at + o) v m)
+
+pub puts-are : (at o : ℕ) (ws : List ℕ) (vs : List (List ℕ)) (m : List ℕ) → length ws ≡ o → at + (o + length (flatten vs)) ≤ length m
+    → puts at o vs (put at ws m) ≡ put at (ws ++ flatten vs) m
+unfolding flatten
+puts-are at o ws [] m e h = rw append-nil
+puts-are at o ws (v ∷ vs) m e h =
+    let room : at + (length ws + length v) ≤ length m = omega (arith, length-append v (flatten vs)) in
+    let joined : put (at + o) v (put at ws m) ≡ put at (ws ++ v) m = rw (← e) (sym (put-append at ws v m room)) in
+    let long : length (ws ++ v) ≡ o + length v = length-append ws v ∙ ap (λ (k : ℕ). k + length v) e in
+    let more : at + (o + length v + length (flatten vs)) ≤ length m = omega (arith, length-append v (flatten vs)) in
+    rw (joined, ← append-assoc) (puts-are at (o + length v) (ws ++ v) vs m long more)
+
+pub put-whole : (vs m : List ℕ) → length m ≡ length vs → put 0 vs m ≡ vs
+unfolding put
+put-whole vs m h = rw (drop-of-length-le m {i = length vs} (omega arith)) (append-nil vs)

@@ -1,0 +1,8 @@
+pub mod Little
+pub mod Put
+pub mod Float
+pub mod Matrix
+pub mod Color
+pub mod Vector
+pub mod Material
+pub mod Light

@@ -1,0 +1,25 @@
+// Little-endian numbers, floats and Direct3D's records in byte slices.
+mod color;
+mod float;
+mod light;
+mod little;
+mod material;
+mod matrix;
+mod vector;
+
+pub use color::color_at;
+pub use color::put_color;
+pub use float::f32_at;
+pub use float::put_f32;
+pub use light::light_at;
+pub use light::put_light;
+pub use little::put_u32;
+pub use little::u32_at;
+pub use material::material_at;
+pub use material::put_material;
+pub use matrix::matrix_at;
+pub use matrix::put_matrix;
+pub use matrix::put_row;
+pub use matrix::row_at;
+pub use vector::put_vector;
+pub use vector::vector_at;
