@@ -1,0 +1,154 @@
+// The active lights: of a type that contributes, and enabled. Packing wants them in one row, by ascending index.
+ghost use mathlib.Core.Path.{_≡_};
+ghost use Prim.Native.Nat.{_≤_, _<_};
+ghost use lib.ListN.{take};
+ghost use Rattle.ff_state.specs.Active.{activeSlots, activeOverflow, listed, pushed, pushAll, kindMask, lowBits};
+ghost use Rattle.ff_state.specs.Active.{lightActiveMask, resolveActiveLights, compactedLightMasks, vsSourceLightInputs};
+use crate::bits::has_bit;
+use crate::overflow::used_count;
+use crate::slots::light_type_contributes;
+use crate::state::FfState;
+use crate::state::OverflowLight;
+use d3d9_types::D3DLIGHT_DIRECTIONAL;
+use d3d9_types::D3DLIGHT_SPOT;
+use d3d9_types::D3DLIGHT9;
+use d3d9_types::default_light;
+
+// The first `len` are used; the others are the default light.
+pub struct ActiveLights {
+    pub lights: [D3DLIGHT9; 8],
+    pub len: usize,
+}
+
+pub struct LightMasks {
+    pub active: u8,
+    pub directional: u8,
+    pub spot: u8,
+}
+
+// One light more, up to the limit.
+fn push(list: ActiveLights, limit: usize, light: D3DLIGHT9) -> ActiveLights
+    requires { ⌜ limit ≤ 8 ⌝ }
+    ensures { λ r. ⌜ r ≡ pushed limit list light ⌝ }
+{
+    let at = list.len;
+    if at < limit {
+        let mut out = list;
+        out.lights[at] = light;
+        out.len = at + 1;
+        return out;
+    }
+    list
+}
+
+fn push_slots(lights: [D3DLIGHT9; 8], mask: u8, limit: usize) -> ActiveLights
+    requires { ⌜ limit ≤ 8 ⌝ }
+    ensures { λ r. ⌜ r ≡ listed limit (activeSlots mask lights) ⌝ }
+{
+    let mut list = ActiveLights {
+        lights: [default_light(); 8],
+        len: 0,
+    };
+    let mut i = 0usize;
+    while i < 8 {
+        if has_bit(mask, i as u32) {
+            list = push(list, limit, lights[i]);
+        }
+        i = i + 1;
+    }
+    list
+}
+
+fn push_overflow(
+    entries: [OverflowLight; 56],
+    used: usize,
+    limit: usize,
+    first: ActiveLights,
+) -> ActiveLights
+    requires { ⌜ (used ≤ 56) × (limit ≤ 8) ⌝ }
+    ensures { λ r. ⌜ r ≡ pushAll limit first (activeOverflow (take used entries)) ⌝ }
+{
+    let mut list = first;
+    let mut i = 0usize;
+    while i < used {
+        let e = entries[i];
+        if e.enabled != 0 {
+            if light_type_contributes(e.light.type_) {
+                list = push(list, limit, e.light);
+            }
+        }
+        i = i + 1;
+    }
+    list
+}
+
+// The n lowest bits.
+fn low_bits(n: usize) -> u8
+    requires { ⌜ n ≤ 8 ⌝ }
+    ensures { λ r. ⌜ r ≡ lowBits n ⌝ }
+{
+    ((1u32 << n as u32) - 1) as u8
+}
+
+// Bit i says whether light i has this type.
+fn kind_mask(list: ActiveLights, kind: u32) -> u8
+    requires { ⌜ list .len ≤ 8 ⌝ }
+    ensures { λ r. ⌜ r ≡ kindMask kind (take (list .len) (list .lights)) ⌝ }
+{
+    let mut i = list.len;
+    let mut mask = 0u8;
+    while 0 < i {
+        i = i - 1;
+        let l = list.lights[i];
+        mask = mask * 2 + (l.type_ == kind) as u8;
+    }
+    mask
+}
+
+impl FfState {
+    // The active slots, by their own numbers.
+    pub fn light_active_mask(self) -> u8
+        ensures { λ r. ⌜ r ≡ lightActiveMask self ⌝ }
+    {
+        self.light_set_mask & self.light_enabled
+    }
+
+    // The first `limit` of the active lights.
+    pub fn resolve_active_lights(self, limit: usize) -> ActiveLights
+        requires { ⌜ limit ≤ 8 ⌝ }
+        ensures { λ r. ⌜ r ≡ resolveActiveLights self limit ⌝ }
+    {
+        let lights = self.lights;
+        let first = push_slots(lights, self.light_set_mask & self.light_enabled, limit);
+        let entries = self.overflow_lights;
+        push_overflow(entries, used_count(self.overflow_count), limit, first)
+    }
+
+    pub fn compacted_light_masks(self) -> LightMasks
+        ensures { λ r. ⌜ r ≡ compactedLightMasks self ⌝ }
+    {
+        let list = self.resolve_active_lights(8);
+        LightMasks {
+            active: low_bits(list.len),
+            directional: kind_mask(list, D3DLIGHT_DIRECTIONAL),
+            spot: kind_mask(list, D3DLIGHT_SPOT),
+        }
+    }
+
+    // What a key is made from: the raw masks while no overflow light is stored, else the compacted ones and 1.
+    pub fn vs_source_light_inputs(self) -> u32
+        ensures { λ r. ⌜ r ≡ vsSourceLightInputs self ⌝ }
+    {
+        if self.overflow_count == 0 {
+            let active = self.light_set_mask & self.light_enabled;
+            let directional = self.light_directional_mask & active;
+            let spot = self.light_spot_mask & active;
+            return active as u32 + directional as u32 * 0x100 + spot as u32 * 0x1_0000;
+        }
+        let masks = self.compacted_light_masks();
+        masks.active as u32
+            + masks.directional as u32 * 0x100
+            + masks.spot as u32 * 0x1_0000
+            + 0x100_0000
+    }
+}
