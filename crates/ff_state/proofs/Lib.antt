@@ -1,2 +1,4 @@
 pub mod Branch
 pub mod Lists
+pub mod Places
+pub mod Words

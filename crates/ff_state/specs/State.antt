@@ -3,12 +3,14 @@
 -- the highest palette index is taken as it stands; what stands in an undefined slot or an unused entry is not looked at.
 use Prim.Native.Nat.{ℕ}
 use mathlib.Core.List.{List}
+use lib.Ieee.{nan}
 use lib.ListN.{replicate}
 use Rattle.d3d9_types.specs.Numbers.{zero}
 use Rattle.d3d9_types.specs.Color.{black}
 use Rattle.d3d9_types.specs.Matrix.{identity}
 use Rattle.d3d9_types.specs.Material.{defaultMaterial}
 use Rattle.d3d9_types.specs.Light.{defaultLight}
+use Rattle.d3d9_types.specs.declared.matrix.Row.{Row}
 use Rattle.d3d9_types.specs.declared.matrix.D3DMATRIX.{D3DMATRIX}
 use Rattle.d3d9_types.specs.declared.material.D3DMATERIAL9.{D3DMATERIAL9}
 use Rattle.d3d9_types.specs.declared.light.D3DLIGHT9.{D3DLIGHT9}
@@ -334,6 +336,10 @@ zeroLight =
       theta = zero;
       phi = zero;
     }
+
+-- What the language gives past the end of an array of matrices. No array of a state is shorter than its indices, so it is never read.
+abbrev pub noMatrix : D3DMATRIX
+noMatrix = let r : Row = record { x = nan; y = nan; z = nan; w = nan } in record { r0 = r; r1 = r; r2 = r; r3 = r }
 
 -- an entry of the overflow table; an unused one is all zeros
 abbrev pub entry : ℕ → ℕ → D3DLIGHT9 → OverflowLight

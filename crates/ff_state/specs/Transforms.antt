@@ -8,7 +8,7 @@ use Rattle.d3d9_types.specs.Matrix.{identity}
 use Rattle.d3d9_types.specs.declared.matrix.D3DMATRIX.{D3DMATRIX}
 use Rattle.matrix.specs.Product.{matMul}
 use Rattle.ff_state.specs.Sections.{bitsOf}
-use Rattle.ff_state.specs.State.{withView, withProjection, withWorldPalette, withWorldPaletteHighWater, withTextureTransforms}
+use Rattle.ff_state.specs.State.{noMatrix, withView, withProjection, withWorldPalette, withWorldPaletteHighWater, withTextureTransforms}
 use Rattle.ff_state.specs.Dirty.{dirtied}
 use Rattle.ff_state.specs.declared.sections.Section.{Section}
 use Rattle.ff_state.specs.declared.sections.Section.the-variants.{Wv, Proj, Lights, Tt}
@@ -54,8 +54,8 @@ placeBits p = bitsOf (placeSections p)
 unfoldable pub matrixAt : FfState → Place → D3DMATRIX
 matrixAt s View = s .view
 matrixAt s Projection = s .projection
-matrixAt s (Texture i) = getD (s .«texture_transforms») i identity
-matrixAt s (Palette i) = getD (s .«world_palette») i identity
+matrixAt s (Texture i) = getD (s .«texture_transforms») i noMatrix
+matrixAt s (Palette i) = getD (s .«world_palette») i noMatrix
 
 -- a matrix stored at a place; a palette index raises the highest one ever set or multiplied
 unfoldable pub placed : FfState → Place → D3DMATRIX → FfState
@@ -88,7 +88,7 @@ worldPaletteUsed s = s .«world_palette_high_water» + 1
 
 -- ff_state.rs 1141–1144
 unfoldable pub worldViewProjection : FfState → D3DMATRIX
-worldViewProjection s = matMul (matMul (getD (s .«world_palette») 0 identity) (s .view)) (s .projection)
+worldViewProjection s = matMul (matMul (getD (s .«world_palette») 0 noMatrix) (s .view)) (s .projection)
 
 -- document 01's number of each answer, and its matrix: the identity beside a refusal
 unfoldable pub transformNumber : TransformAnswer → ℕ

@@ -3,6 +3,19 @@ ghost use mathlib.Core.Path.{_≡_};
 ghost use Prim.Native.Nat.{_<_};
 ghost use Rattle.ff_state.specs.Bits.{hasBit, withBit};
 
+// Numbers at a wider type: a cast of a field would ask for its range.
+pub fn wide8(x: u8) -> u32
+    ensures { λ r. ⌜ (r ≡ x) × (r < 256) ⌝ }
+{
+    x as u32
+}
+
+pub fn wide16(x: u16) -> u32
+    ensures { λ r. ⌜ (r ≡ x) × (r < 65536) ⌝ }
+{
+    x as u32
+}
+
 pub fn has_bit(mask: u8, i: u32) -> bool
     requires { ⌜ i < 8 ⌝ }
     ensures { λ r. ⌜ r ≡ hasBit mask i ⌝ }

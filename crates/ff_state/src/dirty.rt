@@ -1,6 +1,7 @@
 // The dirty bits: marked, and taken.
 ghost use mathlib.Core.Path.{_≡_};
 ghost use Rattle.ff_state.specs.Dirty.{dirtied, markFfVsDirty, takeFfVsDirty};
+use crate::bits::wide8;
 use crate::sections::ALL;
 use crate::state::FfState;
 
@@ -48,7 +49,7 @@ impl FfState {
     pub fn take_ff_vs_dirty(self) -> Taken
         ensures { λ r. ⌜ r ≡ takeFfVsDirty self ⌝ }
     {
-        let bits = self.ff_vs_dirty as u32;
+        let bits = wide8(self.ff_vs_dirty);
         let mut t = self;
         t.ff_vs_dirty = 0;
         Taken { bits, state: t }

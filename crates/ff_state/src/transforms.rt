@@ -3,6 +3,7 @@ ghost use mathlib.Core.Path.{_≡_};
 ghost use Prim.Native.Nat.{_<_};
 ghost use Rattle.ff_state.specs.Transforms.{slotOf, InRange, matrixAt, placed, placeBits, setTransform, multiplyTransform, transformOf};
 ghost use Rattle.ff_state.specs.Transforms as Transforms;
+use crate::bits::wide16;
 use crate::dirty::with_dirty;
 use crate::sections::LIGHTS;
 use crate::sections::PALETTE;
@@ -170,7 +171,7 @@ impl FfState {
     pub fn world_palette_used(self) -> u32
         ensures { λ r. ⌜ r ≡ Transforms.worldPaletteUsed self ⌝ }
     {
-        self.world_palette_high_water as u32 + 1
+        wide16(self.world_palette_high_water) + 1
     }
 
     pub fn world_view_projection(self) -> D3DMATRIX
