@@ -1,4 +1,3 @@
-pub mod Branch
 pub mod Lists
 pub mod Places
 pub mod Words

@@ -12,7 +12,7 @@ use lib.Pow.{pow-pos}
 use mir.Val.{boolByte}
 use Rattle.ff_state.specs.Bits.{hasBit, withBit}
 
-flag-is : (b : Bool) → boolByte b ≡ cond b 1 0
+pub flag-is : (b : Bool) → boolByte b ≡ cond b 1 0
 flag-is true = refl
 flag-is false = refl
 

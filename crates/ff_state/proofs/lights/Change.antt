@@ -1,6 +1,6 @@
 -- A change of a light, from the search and the change of the entry or the slot. Assumes nothing.
 use Prim.Native.Nat.{ℕ}
-use mathlib.Core.Path.{_≡_, refl, sym, ap, _∙_}
+use mathlib.Core.Path.{_≡_, sym, ap, _∙_}
 use mathlib.Core.Bool.{Bool, true, false, cond}
 use lib.ListN.{getD}
 use mir.Val.{boolByte}
@@ -11,13 +11,13 @@ use Rattle.ff_state.specs.declared.state.OverflowLight.{OverflowLight}
 use Rattle.ff_state.specs.declared.overflow.Found.{Found}
 use Rattle.ff_state.specs.declared.lights.LightAnswer.the-variants.{Accepted}
 use Rattle.ff_state.specs.declared.lights.LightChanged.{LightChanged}
+use Rattle.ff_state.proofs.Words.{flag-is}
 use Rattle.ff_state.proofs.lights.Found.{entry-there}
 
 -- the code's number of a bool
 pub flag-byte : (on : Bool) → flag on ≡ boolByte on
 unfolding flag
-flag-byte true = refl
-flag-byte false = refl
+flag-byte on = sym (flag-is on)
 
 abbrev pub accepted : FfState → LightChanged
 accepted s = record { answer = Accepted; state = s }

@@ -11,7 +11,7 @@ use lib.Seq.{slice-cons, slice-empty, length-take-le, getD-take}
 use borrow.Author.Tests.{lt-ltb, le-ltb, ltb-true, eqb-true}
 use Rattle.ff_state.specs.State.{zeroEntry}
 use Rattle.ff_state.specs.Overflow.{usedCount, lowerBound, findEntry}
-use Rattle.ff_state.proofs.Branch.{branch}
+use Rattle.lemmas.proofs.Branch.{branch}
 use Rattle.ff_state.proofs.Lists.{getD-default}
 use Rattle.ff_state.specs.declared.state.OverflowLight.{OverflowLight}
 
