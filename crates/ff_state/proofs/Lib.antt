@@ -1,3 +1,5 @@
 pub mod Lists
 pub mod Places
 pub mod Words
+pub mod Sorted
+pub mod Room

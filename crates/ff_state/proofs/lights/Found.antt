@@ -16,7 +16,7 @@ use Rattle.ff_state.proofs.overflow.LowerBound.{used-most, bound-most, 
 -- the code's search, of the count as it reads and the entries before it
 pub searched : (s : FfState) (i n : ℕ) (f : Found) → n ≡ usedCount (s .«overflow_count») → f ≡ findEntry (take n (s .«overflow_lights»)) i → f ≡ found s i
 unfolding found used
-searched s i n f counted e = e ∙ ap (λ (k : ℕ). findEntry (take k (s .«overflow_lights»)) i) counted
+searched s i n f q e = e ∙ ap (λ (k : ℕ). findEntry (take k (s .«overflow_lights»)) i) q
 
 module _ (s : FfState) where
   -- the entries in use are entries of the table, and at most 56
@@ -24,14 +24,23 @@ module _ (s : FfState) where
   unfolding used
   in-use = omega (arith, length-take (usedCount (s .«overflow_count»)) (s .«overflow_lights»))
 
-  at-most-56 : length (used s) ≤ 56
+  counted : length (used s) ≤ usedCount (s .«overflow_count»)
   unfolding used
-  at-most-56 = omega (arith, length-take (usedCount (s .«overflow_count»)) (s .«overflow_lights»), used-most (usedCount (s .«overflow_count»)) (s .«overflow_count») refl)
+  counted = omega (arith, length-take (usedCount (s .«overflow_count»)) (s .«overflow_lights»))
+
+  at-most-56 : length (used s) ≤ 56
+  at-most-56 = omega (arith, counted, used-most (usedCount (s .«overflow_count»)) (s .«overflow_count») refl)
 
   module _ (i : ℕ) (f : Found) (e : f ≡ found s i) where
-    pub place-most : f .at ≤ 56
+    place-end : f .at ≤ length (used s)
     unfolding found findEntry
-    place-most = omega (arith, ap (λ (g : Found). g .at) e, bound-most (used s) i, at-most-56)
+    place-end = omega (arith, ap (λ (g : Found). g .at) e, bound-most (used s) i)
+
+    pub place-used-most : f .at ≤ usedCount (s .«overflow_count»)
+    place-used-most = omega (arith, place-end, counted)
+
+    pub place-most : f .at ≤ 56
+    place-most = omega (arith, place-end, at-most-56)
 
     module _ (stored : f .stored ≡ true) where
       place-used : f .at < length (used s)
