@@ -1,6 +1,6 @@
 -- Pushing lights one after another, up to a limit, gives the list of the first so many. Assumes nothing.
 use Prim.Native.Nat.{ℕ, zero, suc, _+_, _-_, _*_, _^_, _≤_, _<_, zero-le}
-use native.Mathlib.Nat.{le-of-lt, le-refl, lt-of-not-le, pow-suc}
+use native.Mathlib.Nat.{le-of-lt, le-refl, lt-of-not-le, pow-suc, min-le-left}
 use native.Mathlib.Numerals.{add-one}
 use native.Mathlib.Omega.{arith}
 use mathlib.Core.Path.{_≡_, refl, sym, ap, ap₂, subst, _∙_}
@@ -10,12 +10,15 @@ use mathlib.Core.List.{List, [], _∷_, _++_, append-nil, append-assoc}
 use native.Mathlib.Decide.{decLe}
 use lib.Dec.{ltb, eqb, lit<}
 use mir.Val.{boolByte}
-use lib.ListN.{length, take, drop, getD, set, replicate, length-append, length-replicate}
+use lib.ListN.{length, take, drop, getD, set, replicate, length-append, length-take}
 use mir.Val.{Fits}
 use mir.Syntax.{w8}
-use lib.Seq.{drop-cons, getD-take, take-all, take-append-le, length-take-le, set-at, append-snoc}
+use lib.Seq.{take-append-seam, drop-cons, getD-take, take-all, take-append-le, length-take-le, set-at, append-snoc}
 use borrow.Author.Tests.{lt-ltb, le-ltb}
 use Rattle.d3d9_types.specs.Light.{defaultLight}
+use lib.Ieee.{nan}
+use Rattle.d3d9_types.specs.declared.color.D3DCOLORVALUE.{D3DCOLORVALUE}
+use Rattle.d3d9_types.specs.declared.vector.D3DVECTOR.{D3DVECTOR}
 use Rattle.d3d9_types.specs.declared.light.D3DLIGHT9.{D3DLIGHT9}
 use Rattle.ff_state.specs.Active.{slotsFrom, isActive, activeOverflow, listed, noLights, pushed, pushAll, kindMask}
 use Rattle.ff_state.specs.Bits.{hasBit}
@@ -77,7 +80,6 @@ pushed-two limit h ls ms =
     ap (λ (a : ActiveLights). pushAll limit a ms) (ap (λ (a : ActiveLights). pushAll limit a ls) (none limit) ∙ push-all-listed limit h [] ls)
     ∙ push-all-listed limit h ls ms
 
-
 -- a light that is pushed or not is pushed from a list that has it or not
 push-if : (limit : ℕ) (t : Bool) (a : ActiveLights) (l : D3DLIGHT9) (ls : List D3DLIGHT9)
     → pushAll limit (cond t (pushed limit a l) a) ls ≡ pushAll limit a (cond t (l ∷ ls) ls)
@@ -135,3 +137,19 @@ kind-again t i n mask ls d p h l e =
 pub turn-fits : (m : ℕ) (b : Bool) → m < 128 → Fits w8 (m * 2 + boolByte b)
 turn-fits m true h = omega arith
 turn-fits m false h = omega arith
+
+-- what the language gives past the end of an array of lights
+abbrev pub noLight : D3DLIGHT9
+noLight =
+    let c : D3DCOLORVALUE = record { r = nan; g = nan; b = nan; a = nan } in
+    let v : D3DVECTOR = record { x = nan; y = nan; z = nan } in
+    record { «type_» = 0; diffuse = c; specular = c; ambient = c; position = v; direction = v; range = nan; falloff = nan; attenuation0 = nan; attenuation1 = nan; attenuation2 = nan; theta = nan; phi = nan }
+
+-- a listed list, read back
+pub listed-len : (ls : List D3DLIGHT9) → listed 8 ls .len ≤ 8
+unfolding listed
+listed-len ls = simp length-take (min-le-left 8 (length ls))
+
+pub listed-front : (ls : List D3DLIGHT9) → take (listed 8 ls .len) (listed 8 ls .lights) ≡ take 8 ls
+unfolding listed
+listed-front ls = take-append-seam (take 8 ls) (replicate (8 - length (take 8 ls)) defaultLight)

@@ -3,7 +3,7 @@ ghost use mathlib.Core.Path.{_≡_};
 ghost use Prim.Native.Nat.{_≤_, _<_};
 ghost use lib.ListN.{take};
 ghost use mathlib.Core.Bool.{cond};
-ghost use Rattle.ff_state.specs.Active.{activeSlots, isActive, activeOverflow, noLights, pushed, pushAll, kindMask, lowBits};
+ghost use Rattle.ff_state.specs.Active.{activeSlots, isActive, activeOverflow, noLights, pushed, pushAll, kindMask, lowBits, fourBytes};
 ghost use Rattle.ff_state.specs.Active.{lightActiveMask, resolveActiveLights, compactedLightMasks, vsSourceLightInputs};
 use crate::bits::has_bit;
 use crate::overflow::used_count;
@@ -70,7 +70,12 @@ fn push_slots(lights: [D3DLIGHT9; 8], mask: u8, limit: usize) -> ActiveLights
     list
 }
 
-fn push_overflow(entries: [OverflowLight; 56], used: usize, limit: usize, first: ActiveLights) -> ActiveLights
+fn push_overflow(
+    entries: [OverflowLight; 56],
+    used: usize,
+    limit: usize,
+    first: ActiveLights,
+) -> ActiveLights
     requires { ⌜ (used ≤ 56) × (limit ≤ 8) ⌝ }
     ensures { λ r. ⌜ r ≡ pushAll limit first (activeOverflow (take used entries)) ⌝ }
 {
@@ -106,6 +111,13 @@ fn kind_mask(list: ActiveLights, kind: u32) -> u8
         mask = mask * 2 + (l.type_ == kind) as u8;
     }
     mask
+}
+
+// Four bytes as a number, the first lowest.
+fn four_bytes(a: u8, b: u8, c: u8, d: u8) -> u32
+    ensures { λ r. ⌜ r ≡ fourBytes a b c d ⌝ }
+{
+    a as u32 + b as u32 * 0x100 + c as u32 * 0x1_0000 + d as u32 * 0x100_0000
 }
 
 impl FfState {
@@ -146,12 +158,9 @@ impl FfState {
             let active = self.light_set_mask & self.light_enabled;
             let directional = self.light_directional_mask & active;
             let spot = self.light_spot_mask & active;
-            return active as u32 + directional as u32 * 0x100 + spot as u32 * 0x1_0000;
+            return four_bytes(active, directional, spot, 0);
         }
         let masks = self.compacted_light_masks();
-        masks.active as u32
-            + masks.directional as u32 * 0x100
-            + masks.spot as u32 * 0x1_0000
-            + 0x100_0000
+        four_bytes(masks.active, masks.directional, masks.spot, 1)
     }
 }

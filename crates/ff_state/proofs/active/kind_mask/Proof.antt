@@ -3,11 +3,13 @@
 use Prim.Native.Nat.{ℕ, suc, _-_, _≤_, _<_}
 use native.Mathlib.Omega.{arith}
 use mathlib.Core.Path.{_≡_, refl, sym, ap, _∙_}
-use lib.ListN.{length, take, drop, length-map, length-drop, length-take, drop-of-length-le}
+use lib.Dec.{eqb}
+use lib.ListN.{length, getD, take, drop, length-map, length-drop, length-take, drop-of-length-le}
 use lib.Seq.{length-take-le}
 use lib.Pow.{pow-mono}
 use native.Mathlib.Nat.{lt-of-lt-of-le}
 use Rattle.ff_state.specs.Active.{kindMask}
+use Rattle.ff_state.proofs.Compaction.{noLight}
 use Rattle.ff_state.proofs.Compaction.{kind-mask-lt, kind-again, turn-fits}
 use Rattle.ff_state.proofs.active.kind_mask.Statement.{statement}
 use Rattle.ff_state.proofs.active.kind_mask.Tie as tie
@@ -52,7 +54,9 @@ cast-mask : tie.Need-cast-mask Inv-loop μ-loop
 cast-mask c = tt
 
 add-mask : tie.Need-add-mask Inv-loop μ-loop
-add-mask c = turn-fits _ _ (room (c .before))
+add-mask c =
+    let at = c .before .before .before in
+    turn-fits (at .loop .mask) (eqb (getD (at .before .args .t1 .lights) (at .loop .i - 1) noLight .«type_») (at .before .args .kind)) (room (c .before))
 
 loop-less : tie.Need-loop-less Inv-loop μ-loop
 loop-less c = omega arith
@@ -62,11 +66,12 @@ loop-again c =
     let at = c .before .before .before in
     let l = at .loop in
     let a = at .before .args .t1 in
-    let len = l .inv .2 in
-    (omega arith,
+    let len = l .inv .2 in (
+      omega arith,
       l .inv .1,
       len,
-      kind-again (at .before .args .kind) (l .i) (a .len) (l .mask) (a .lights) _ (omega arith) (l .inv .0) (omega arith) (l .inv .3))
+      kind-again (at .before .args .kind) (l .i) (a .len) (l .mask) (a .lights) _ (omega arith) (l .inv .0) (omega arith) (l .inv .3),
+    )
 
 returns : tie.Need-returns Inv-loop μ-loop
 returns c =

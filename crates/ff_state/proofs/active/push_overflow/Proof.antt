@@ -48,12 +48,13 @@ loop-again c =
     let a = at .before .args in
     let len = l .inv .2 in
     let turn = at-turn c in
-    let long : length (take (a .used) (a .t1)) ≡ a .used = length-take-le (a .used) (a .t1) (omega arith) in
-    (omega arith,
+    let long : length (take (a .used) (a .t1)) ≡ a .used = length-take-le (a .used) (a .t1) (omega arith) in (
+      omega arith,
       l .inv .1,
       len,
       overflow-again (a .limit) (l .i) (take (a .used) (a .t1)) _ _ (l .list) (c .push-if .result) (c .before .is-active .result) (omega arith) (getD-take (a .used) (a .t1) (l .i) _ turn) (c .before .is-active .ensures) (c .push-if .ensures)
-      ∙ l .inv .3)
+          ∙ l .inv .3,
+    )
 
 returns : tie.Need-returns Inv-loop μ-loop
 unfolding activeOverflow pushAll

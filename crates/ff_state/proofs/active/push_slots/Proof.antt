@@ -48,11 +48,12 @@ loop-again : tie.Need-loop-again Inv-loop μ-loop
 loop-again c =
     let l = c .before .before .before .before .loop in
     let a = c .before .before .before .before .before .before .args in
-    let len = l .inv .1 in
-    (omega arith,
+    let len = l .inv .1 in (
+      omega arith,
       len,
       slots-again (a .limit) (a .mask) (l .i) (a .t1) _ (l .list) (c .push-if .result) (c .before .before .has-bit .result) (omega arith) (c .before .before .has-bit .ensures) (c .push-if .ensures)
-      ∙ l .inv .2)
+          ∙ l .inv .2,
+    )
 
 returns : tie.Need-returns Inv-loop μ-loop
 unfolding slotsFrom pushAll
