@@ -43,6 +43,9 @@ listed limit ls =
     let few = take limit ls in
     record { lights = few ++ replicate (8 - length few) defaultLight; len = length few }
 
+unfoldable pub noLights : ActiveLights
+noLights = record { lights = replicate 8 defaultLight; len = 0 }
+
 -- one more, up to the limit, and one after another
 unfoldable pub pushed : ℕ → ActiveLights → D3DLIGHT9 → ActiveLights
 pushed limit a l = cond (ltb (a .len) limit) (record { lights = set (a .lights) (a .len) l; len = a .len + 1 }) a

@@ -2,7 +2,8 @@
 ghost use mathlib.Core.Path.{_≡_};
 ghost use Prim.Native.Nat.{_≤_, _<_};
 ghost use lib.ListN.{take};
-ghost use Rattle.ff_state.specs.Active.{activeSlots, activeOverflow, listed, pushed, pushAll, kindMask, lowBits};
+ghost use mathlib.Core.Bool.{cond};
+ghost use Rattle.ff_state.specs.Active.{activeSlots, isActive, activeOverflow, noLights, pushed, pushAll, kindMask, lowBits, fourBytes};
 ghost use Rattle.ff_state.specs.Active.{lightActiveMask, resolveActiveLights, compactedLightMasks, vsSourceLightInputs};
 use crate::bits::has_bit;
 use crate::overflow::used_count;
@@ -26,24 +27,36 @@ pub struct LightMasks {
     pub spot: u8,
 }
 
-// One light more, up to the limit.
-fn push(list: ActiveLights, limit: usize, light: D3DLIGHT9) -> ActiveLights
+// One light more if it is active, up to the limit.
+fn push_if(list: ActiveLights, limit: usize, active: bool, light: D3DLIGHT9) -> ActiveLights
     requires { ⌜ limit ≤ 8 ⌝ }
-    ensures { λ r. ⌜ r ≡ pushed limit list light ⌝ }
+    ensures { λ r. ⌜ r ≡ cond active (pushed limit list light) list ⌝ }
 {
-    let at = list.len;
-    if at < limit {
-        let mut out = list;
-        out.lights[at] = light;
-        out.len = at + 1;
-        return out;
+    if active {
+        let at = list.len;
+        if at < limit {
+            let mut out = list;
+            out.lights[at] = light;
+            out.len = at + 1;
+            return out;
+        }
     }
     list
 }
 
+fn is_active(e: OverflowLight) -> bool
+    ensures { λ r. ⌜ r ≡ isActive e ⌝ }
+{
+    if e.enabled == 0 {
+        return false;
+    }
+    let light = e.light;
+    light_type_contributes(light.type_)
+}
+
 fn push_slots(lights: [D3DLIGHT9; 8], mask: u8, limit: usize) -> ActiveLights
     requires { ⌜ limit ≤ 8 ⌝ }
-    ensures { λ r. ⌜ r ≡ listed limit (activeSlots mask lights) ⌝ }
+    ensures { λ r. ⌜ r ≡ pushAll limit noLights (activeSlots mask lights) ⌝ }
 {
     let mut list = ActiveLights {
         lights: [default_light(); 8],
@@ -51,9 +64,7 @@ fn push_slots(lights: [D3DLIGHT9; 8], mask: u8, limit: usize) -> ActiveLights
     };
     let mut i = 0usize;
     while i < 8 {
-        if has_bit(mask, i as u32) {
-            list = push(list, limit, lights[i]);
-        }
+        list = push_if(list, limit, has_bit(mask, i as u32), lights[i]);
         i = i + 1;
     }
     list
@@ -72,11 +83,8 @@ fn push_overflow(
     let mut i = 0usize;
     while i < used {
         let e = entries[i];
-        if e.enabled != 0 {
-            if light_type_contributes(e.light.type_) {
-                list = push(list, limit, e.light);
-            }
-        }
+        let light = e.light;
+        list = push_if(list, limit, is_active(e), light);
         i = i + 1;
     }
     list
@@ -103,6 +111,13 @@ fn kind_mask(list: ActiveLights, kind: u32) -> u8
         mask = mask * 2 + (l.type_ == kind) as u8;
     }
     mask
+}
+
+// Four bytes as a number, the first lowest.
+fn four_bytes(a: u8, b: u8, c: u8, d: u8) -> u32
+    ensures { λ r. ⌜ r ≡ fourBytes a b c d ⌝ }
+{
+    a as u32 + b as u32 * 0x100 + c as u32 * 0x1_0000 + d as u32 * 0x100_0000
 }
 
 impl FfState {
@@ -143,12 +158,9 @@ impl FfState {
             let active = self.light_set_mask & self.light_enabled;
             let directional = self.light_directional_mask & active;
             let spot = self.light_spot_mask & active;
-            return active as u32 + directional as u32 * 0x100 + spot as u32 * 0x1_0000;
+            return four_bytes(active, directional, spot, 0);
         }
         let masks = self.compacted_light_masks();
-        masks.active as u32
-            + masks.directional as u32 * 0x100
-            + masks.spot as u32 * 0x1_0000
-            + 0x100_0000
+        four_bytes(masks.active, masks.directional, masks.spot, 1)
     }
 }

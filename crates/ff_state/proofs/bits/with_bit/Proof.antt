@@ -1,14 +1,13 @@
 -- `ff_state::bits::with_bit` meets its contract: the digits above and below bit i are put together again round the new one (`with-bit-is`), and nothing leaves the width.
 -- Assumes nothing.
 use Prim.Native.Nat.{ℕ, _+_, _*_, _/_, _%_, _^_, _<_}
-use native.Mathlib.Nat.{one-mul, mod-eq-of-lt}
+use native.Mathlib.Nat.{mod-eq-of-lt}
 use native.Mathlib.Omega.{arith}
 use mathlib.Core.Path.{_≡_, ap₂, _∙_}
-use lib.Dec.{lit<}
-use lib.Pow.{pow-pos, shr-le, shl-exact}
+use lib.Pow.{pow-pos, shr-le}
 use mir.Val.{boolByte}
 use Rattle.ff_state.specs.Bits.{withBit}
-use Rattle.ff_state.proofs.Words.{with-bit-is, with-bit-lt, flag-small}
+use Rattle.ff_state.proofs.Words.{with-bit-is, with-bit-lt, flag-small, one-shl}
 use borrow.Author.Needs.{needs}
 use Rattle.ff_state.proofs.bits.with_bit.Statement.{statement}
 use Rattle.ff_state.proofs.bits.with_bit.Tie as tie
@@ -18,7 +17,7 @@ small : (c : tie.Start) → withBit (c .args .mask) (c .args .i) (c .args .on) <
 small c = with-bit-lt 8 (c .args .mask) (c .args .i) (c .args .on) (c .pre) (c .fits .mask .fits)
 
 one-moved : (c : tie.Start) → (1 * 2 ^ c .args .i) % 2 ^ 32 ≡ 2 ^ c .args .i
-one-moved c = shl-exact {a = 1} 1 (c .args .i) 32 (lit< tt) (omega (arith, c .pre)) ∙ one-mul (2 ^ c .args .i)
+one-moved c = one-shl (c .args .i) (omega (arith, c .pre))
 
 code : (c : tie.Start) → (let m = c .args .mask in let i = c .args .i in ((m / 2 ^ i / 2 * 2 + boolByte (c .args .on)) * 2 ^ i) % 2 ^ 32 + m % ((1 * 2 ^ i) % 2 ^ 32) ≡ withBit m i (c .args .on))
 code c =
