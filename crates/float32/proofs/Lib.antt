@@ -1,4 +1,3 @@
-pub mod Branch
 pub mod Nan
 pub mod Laws
 mod Examples

@@ -18,7 +18,7 @@ use lib.Ieee.Scale.{finite}
 use lib.Ieee.Positive.{first-pos}
 use mathlib.Core.Bool.{_&&_}
 use Rattle.float32.specs.Root.{nearestRoot, rootOf, sqrtOf, inUnits, unsigned, NearestRoot}
-use Rattle.float32.proofs.Branch.{branch}
+use Rattle.lemmas.proofs.Branch.{branch}
 use Rattle.float32.proofs.root.Squares.{Near, nearest-near, nearest-bounds, square-lt}
 use Rattle.float32.proofs.root.Values.{cut, value-unique, made-fits, root-of-value, root-moved}
 use Rattle.float32.proofs.root.Gaps.{gap-below, gap-above, square-mono, twice-square}

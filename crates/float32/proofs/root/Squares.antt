@@ -11,7 +11,7 @@ use lib.Dec.{leb, lit<}
 use mir.Val.{Fits}
 use mir.Syntax.{w64}
 use borrow.Author.Tests.{leb-true, leb-false, le-leb, lt-leb}
-use Rattle.float32.proofs.Branch.{branch}
+use Rattle.lemmas.proofs.Branch.{branch}
 use Rattle.float32.specs.Root.{rootFrom, floorRoot, nearestRoot}
 
 pub square-lt : {a b : ℕ} → a * a < b * b → a < b

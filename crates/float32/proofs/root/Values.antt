@@ -15,7 +15,7 @@ use lib.Ieee.Bits.{ofBits-toBits}
 use lib.Ieee.Digits.{size-lt, size-le}
 use lib.Ieee.Exact.{HasValue, odd-sign}
 use borrow.Author.Tests.{lt-leb, le-leb, ne-eqb}
-use Rattle.float32.proofs.Branch.{branch}
+use Rattle.lemmas.proofs.Branch.{branch}
 use Rattle.float32.specs.Root.{nearestRoot, rootOf, sqrtOf}
 
 -- ---- the count, as `toBits` and `sqrtOf` compute it

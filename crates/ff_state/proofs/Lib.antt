@@ -1,0 +1,6 @@
+pub mod Lists
+pub mod Places
+pub mod Words
+pub mod Compaction
+pub mod Sorted
+pub mod Room

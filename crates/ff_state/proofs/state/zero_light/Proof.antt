@@ -1,0 +1,13 @@
+-- `ff_state::state::zero_light` meets its contract: every number is 0. Assumes nothing.
+use mathlib.Core.Path.{refl}
+use lib.Ieee.{ofBits}
+use Rattle.ff_state.specs.State.{zeroLight}
+use Rattle.ff_state.proofs.state.zero_light.Statement.{statement}
+use Rattle.ff_state.proofs.state.zero_light.Tie as tie
+
+returns : tie.Need-returns
+unfolding zeroLight ofBits
+returns c = refl
+
+pub zero-light-spec : {M : Type 1} → statement M
+zero-light-spec = tie.close (tie.spec returns)

@@ -1,0 +1,66 @@
+-- `ff_state::transforms::matrix_at` meets its contract: each arm reads where `matrixAt` does, at an index in range. Assumes nothing.
+use Prim.Native.Nat.{_<_}
+use native.Mathlib.Omega.{arith}
+use mathlib.Core.Path.{_≡_, refl, sym, ap, subst}
+use borrow.Author.Needs.{needs}
+use Rattle.ff_state.specs.Transforms.{InRange, matrixAt}
+use Rattle.ff_state.specs.declared.transforms.Place.{Place}
+use Rattle.ff_state.proofs.transforms.matrix_at.Statement.{statement}
+use Rattle.ff_state.proofs.transforms.matrix_at.Tie as tie
+
+enum-told : tie.Need-enum-told
+enum-told c = search needs
+
+enum-told-2 : tie.Need-enum-told-2
+enum-told-2 c = search needs
+
+enum-known-place : tie.Need-enum-known-place
+enum-known-place c = search needs
+
+mul-result : tie.Need-mul-result
+mul-result c = omega (arith, subst InRange (c .before .place .given .1) (c .before .before .before .pre))
+
+element-copy-out-result : tie.Need-element-copy-out-result
+element-copy-out-result c = subst InRange (c .before .place .given .1) (c .before .before .before .pre)
+
+enum-known-place-2 : tie.Need-enum-known-place-2
+enum-known-place-2 c = search needs
+
+mul-result-2 : tie.Need-mul-result-2
+mul-result-2 c = omega (arith, subst InRange (c .before .place2 .given .1) (c .before .before .before .pre))
+
+element-copy-out-result-2 : tie.Need-element-copy-out-result-2
+element-copy-out-result-2 c = subst InRange (c .before .place2 .given .1) (c .before .before .before .pre)
+
+returns : tie.Need-returns
+unfolding matrixAt
+returns c = rw (c .before .enum-told .given .1)
+
+returns-2 : tie.Need-returns-2
+unfolding matrixAt
+returns-2 c = rw (c .before .enum-told2 .given .1)
+
+returns-3 : tie.Need-returns-3
+unfolding matrixAt
+returns-3 c = rw (c .before .before .place .given .1)
+
+returns-4 : tie.Need-returns-4
+unfolding matrixAt
+returns-4 c = rw (c .before .before .place2 .given .1)
+
+pub matrix-at-spec : {M : Type 1} → statement M
+matrix-at-spec =
+    tie.close
+    (tie.spec
+    enum-told
+    enum-told-2
+    enum-known-place
+    mul-result
+    element-copy-out-result
+    enum-known-place-2
+    mul-result-2
+    element-copy-out-result-2
+    returns
+    returns-2
+    returns-3
+    returns-4)

@@ -1,0 +1,10 @@
+pub mod Sections
+pub mod Bits
+pub mod State
+pub mod Dirty
+pub mod Transforms
+pub mod Material
+pub mod Slots
+pub mod Overflow
+pub mod Lights
+pub mod Active

@@ -1,0 +1,24 @@
+-- The sections and their bits. Document 01, 'A refresh, from the top': WV 1, PROJ 2, MATERIAL 4, LIGHTS 8, PALETTE 16, TT 32.
+use Prim.Native.Nat.{ℕ, _+_}
+use mathlib.Core.List.{List, [], _∷_}
+use Rattle.ff_state.specs.declared.sections.Section.{Section}
+use Rattle.ff_state.specs.declared.sections.Section.the-variants.{Wv, Proj, Material, Lights, Palette, Tt}
+
+abbrev pub bitOf : Section → ℕ
+bitOf Wv = 1
+bitOf Proj = 2
+bitOf Material = 4
+bitOf Lights = 8
+bitOf Palette = 16
+bitOf Tt = 32
+
+abbrev pub sections : List Section
+sections = Wv ∷ Proj ∷ Material ∷ Lights ∷ Palette ∷ Tt ∷ []
+
+-- a word of the bits of some sections
+abbrev pub bitsOf : List Section → ℕ
+bitsOf [] = 0
+bitsOf (σ ∷ σs) = bitOf σ + bitsOf σs
+
+abbrev pub allBits : ℕ
+allBits = bitsOf sections

@@ -1,0 +1,57 @@
+// The dirty bits: marked, and taken.
+ghost use mathlib.Core.Path.{_≡_};
+ghost use Rattle.ff_state.specs.Dirty.{dirtied, markFfVsDirty, takeFfVsDirty};
+use crate::bits::wide8;
+use crate::sections::ALL;
+use crate::state::FfState;
+
+pub enum MarkAnswer {
+    Accepted,
+    // A bit above the six.
+    UnknownBits,
+}
+
+pub struct Marked {
+    pub answer: MarkAnswer,
+    pub state: FfState,
+}
+
+pub struct Taken {
+    pub bits: u32,
+    pub state: FfState,
+}
+
+// The state with the bits of `bits` dirty too.
+pub fn with_dirty(s: FfState, bits: u8) -> FfState
+    ensures { λ r. ⌜ r ≡ dirtied s bits ⌝ }
+{
+    let mut t = s;
+    t.ff_vs_dirty = t.ff_vs_dirty | bits;
+    t
+}
+
+impl FfState {
+    pub fn mark_ff_vs_dirty(self, bits: u32) -> Marked
+        ensures { λ r. ⌜ r ≡ markFfVsDirty self bits ⌝ }
+    {
+        if bits > ALL as u32 {
+            return Marked {
+                answer: MarkAnswer::UnknownBits,
+                state: self,
+            };
+        }
+        Marked {
+            answer: MarkAnswer::Accepted,
+            state: with_dirty(self, bits as u8),
+        }
+    }
+
+    pub fn take_ff_vs_dirty(self) -> Taken
+        ensures { λ r. ⌜ r ≡ takeFfVsDirty self ⌝ }
+    {
+        let bits = wide8(self.ff_vs_dirty);
+        let mut t = self;
+        t.ff_vs_dirty = 0;
+        Taken { bits, state: t }
+    }
+}

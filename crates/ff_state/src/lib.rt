@@ -1,0 +1,32 @@
+// The vertex state of Direct3D 9's fixed-function pipeline, by value: transforms, material, lights and
+// the dirty bits of the constant sections. A call takes the state and returns it; a refused call
+// returns it as it was.
+mod active;
+mod bits;
+mod dirty;
+mod lights;
+mod material;
+mod overflow;
+mod sections;
+mod slots;
+mod state;
+mod transforms;
+
+pub use active::ActiveLights;
+pub use active::LightMasks;
+pub use dirty::MarkAnswer;
+pub use dirty::Marked;
+pub use dirty::Taken;
+pub use lights::LightAnswer;
+pub use lights::LightChanged;
+pub use lights::LightRead;
+pub use sections::Section;
+pub use sections::section_bit;
+pub use state::FfState;
+pub use state::OverflowLight;
+pub use transforms::Place;
+pub use transforms::Slot;
+pub use transforms::TransformAnswer;
+pub use transforms::TransformChanged;
+pub use transforms::TransformRead;
+pub use transforms::slot_of;

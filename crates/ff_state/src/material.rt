@@ -1,0 +1,23 @@
+// The material.
+ghost use mathlib.Core.Path.{_≡_};
+ghost use Rattle.ff_state.specs.Material.{setMaterial};
+use crate::dirty::with_dirty;
+use crate::sections::MATERIAL;
+use crate::state::FfState;
+use d3d9_types::D3DMATERIAL9;
+
+impl FfState {
+    pub fn set_material(self, m: D3DMATERIAL9) -> FfState
+        ensures { λ r. ⌜ r ≡ setMaterial self m ⌝ }
+    {
+        let mut t = self;
+        t.material = m;
+        with_dirty(t, MATERIAL)
+    }
+
+    pub fn material(self) -> D3DMATERIAL9
+        ensures { λ r. ⌜ r ≡ self .material ⌝ }
+    {
+        self.material
+    }
+}

@@ -1,0 +1,183 @@
+// Transforms, by the numbers of D3DTRANSFORMSTATETYPE.
+ghost use mathlib.Core.Path.{_≡_};
+ghost use Prim.Native.Nat.{_<_};
+ghost use Rattle.ff_state.specs.Transforms.{slotOf, InRange, matrixAt, placed, placeBits, setTransform, multiplyTransform, transformOf};
+ghost use Rattle.ff_state.specs.Transforms as Transforms;
+use crate::bits::wide16;
+use crate::dirty::with_dirty;
+use crate::sections::LIGHTS;
+use crate::sections::PALETTE;
+use crate::sections::PROJ;
+use crate::sections::TT;
+use crate::sections::WV;
+use crate::state::FfState;
+use d3d9_types::D3DMATRIX;
+use matrix::mat_mul;
+
+// Where a transform is stored.
+pub enum Place {
+    View,
+    Projection,
+    Texture(usize),
+    Palette(usize),
+}
+
+// What a number names.
+pub enum Slot {
+    At(Place),
+    Unknown,
+}
+
+pub enum TransformAnswer {
+    Accepted,
+    UnknownState,
+}
+
+pub struct TransformChanged {
+    pub answer: TransformAnswer,
+    pub state: FfState,
+}
+
+pub enum TransformRead {
+    Matrix(D3DMATRIX),
+    UnknownState,
+}
+
+pub fn slot_of(state: u32) -> Slot
+    ensures { λ r. ⌜ r ≡ slotOf state ⌝ }
+{
+    if state == 2 {
+        return Slot::At(Place::View);
+    }
+    if state == 3 {
+        return Slot::At(Place::Projection);
+    }
+    if state < 16 {
+        return Slot::Unknown;
+    }
+    if state < 24 {
+        return Slot::At(Place::Texture((state - 16) as usize));
+    }
+    if state < 256 {
+        return Slot::Unknown;
+    }
+    if state < 512 {
+        return Slot::At(Place::Palette((state - 256) as usize));
+    }
+    Slot::Unknown
+}
+
+// The sections that a matrix stored there feeds. A view change moves the lights, which are packed in
+// view space; palette[0] is the world matrix of WV too.
+fn place_bits(place: Place) -> u8
+    ensures { λ r. ⌜ r ≡ placeBits place ⌝ }
+{
+    match place {
+        Place::View => WV + PALETTE + LIGHTS,
+        Place::Projection => PROJ,
+        Place::Texture(_) => TT,
+        Place::Palette(i) => { if i == 0 { WV + PALETTE } else { PALETTE } }
+    }
+}
+
+// The state with m stored there. A palette index raises the highest one used.
+fn placed_at(s: FfState, place: Place, m: D3DMATRIX) -> FfState
+    requires { ⌜ InRange place ⌝ }
+    ensures { λ r. ⌜ r ≡ placed s place m ⌝ }
+{
+    let mut t = s;
+    match place {
+        Place::View => {
+            t.view = m;
+            t
+        }
+        Place::Projection => {
+            t.projection = m;
+            t
+        }
+        Place::Texture(i) => {
+            t.texture_transforms[i] = m;
+            t
+        }
+        Place::Palette(i) => {
+            t.world_palette[i] = m;
+            if t.world_palette_high_water < i as u16 {
+                t.world_palette_high_water = i as u16;
+                return t;
+            }
+            t
+        }
+    }
+}
+
+fn matrix_at(s: FfState, place: Place) -> D3DMATRIX
+    requires { ⌜ InRange place ⌝ }
+    ensures { λ r. ⌜ r ≡ matrixAt s place ⌝ }
+{
+    match place {
+        Place::View => s.view,
+        Place::Projection => s.projection,
+        Place::Texture(i) => s.texture_transforms[i],
+        Place::Palette(i) => s.world_palette[i],
+    }
+}
+
+impl FfState {
+    pub fn set_transform(self, state: u32, m: D3DMATRIX) -> TransformChanged
+        ensures { λ r. ⌜ r ≡ setTransform self state m ⌝ }
+    {
+        let slot = slot_of(state);
+        let Slot::At(place) = slot else {
+            return TransformChanged {
+                answer: TransformAnswer::UnknownState,
+                state: self,
+            };
+        };
+        TransformChanged {
+            answer: TransformAnswer::Accepted,
+            state: with_dirty(placed_at(self, place, m), place_bits(place)),
+        }
+    }
+
+    // Stores slot x argument, as the Rust does; Microsoft's page has the other order.
+    pub fn multiply_transform(self, state: u32, m: D3DMATRIX) -> TransformChanged
+        ensures { λ r. ⌜ r ≡ multiplyTransform self state m ⌝ }
+    {
+        let slot = slot_of(state);
+        let Slot::At(place) = slot else {
+            return TransformChanged {
+                answer: TransformAnswer::UnknownState,
+                state: self,
+            };
+        };
+        let product = mat_mul(matrix_at(self, place), m);
+        TransformChanged {
+            answer: TransformAnswer::Accepted,
+            state: with_dirty(placed_at(self, place, product), place_bits(place)),
+        }
+    }
+
+    pub fn transform(self, state: u32) -> TransformRead
+        ensures { λ r. ⌜ r ≡ transformOf self state ⌝ }
+    {
+        let slot = slot_of(state);
+        let Slot::At(place) = slot else {
+            return TransformRead::UnknownState;
+        };
+        TransformRead::Matrix(matrix_at(self, place))
+    }
+
+    // The highest palette index ever set or multiplied, plus 1.
+    pub fn world_palette_used(self) -> u32
+        ensures { λ r. ⌜ r ≡ Transforms.worldPaletteUsed self ⌝ }
+    {
+        wide16(self.world_palette_high_water) + 1
+    }
+
+    pub fn world_view_projection(self) -> D3DMATRIX
+        ensures { λ r. ⌜ r ≡ Transforms.worldViewProjection self ⌝ }
+    {
+        let world = self.world_palette[0];
+        mat_mul(mat_mul(world, self.view), self.projection)
+    }
+}

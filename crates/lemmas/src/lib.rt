@@ -1,0 +1,1 @@
+// No code: general lemmas that the proofs of several crates cite.
