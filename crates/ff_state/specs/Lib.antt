@@ -8,3 +8,4 @@ pub mod Slots
 pub mod Overflow
 pub mod Lights
 pub mod Active
+pub mod Valid
