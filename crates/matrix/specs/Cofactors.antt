@@ -1,4 +1,4 @@
--- The steps of `inverse`: the minors of two rows, kept by their columns, and a column of the inverse.
+-- The steps of `inverse`, cited by no public contract: the minors of two rows, kept by their columns, and a column of the inverse.
 use lib.Ieee.{Float, neg}
 use Rattle.d3d9_types.specs.declared.matrix.Row.{Row}
 use Rattle.matrix.specs.declared.inversion.Minors.{Minors}

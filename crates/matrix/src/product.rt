@@ -16,7 +16,7 @@ fn times_row(a: Row, m: D3DMATRIX) -> Row
     }
 }
 
-// a x b.
+// The product a * b.
 pub fn mat_mul(a: D3DMATRIX, b: D3DMATRIX) -> D3DMATRIX
     ensures { λ r. ⌜ r ≡ matMul a b ⌝ }
 {
