@@ -12,7 +12,7 @@ four-bytes-requires c κs = search needs
 
 returns : tie.Need-returns
 unfolding vsSourceLightInputs lightActiveMask
-returns c = rw (eq-eqb _ 0 (c .before .before .before .before .before .before .if1 .taken)) (c .four-bytes .ensures)
+returns c = rw (eq-eqb _ 0 (c .before .before .before .before .if1 .taken)) (c .four-bytes .ensures)
 
 compacted-light-masks-requires : tie.Need-compacted-light-masks-requires
 compacted-light-masks-requires c κs = search needs
