@@ -50,14 +50,14 @@ fn insert_entry(s: FfState, at: usize, e: OverflowLight) -> LightChanged
     requires { ⌜ at ≤ 56 ⌝ }
     ensures { λ r. ⌜ r ≡ insertEntry s at e ⌝ }
 {
-    let used = used_count(s.overflow_count);
-    if used < 56 {
+    let in_use = used_count(s.overflow_count);
+    if in_use < 56 {
         if at < 56 {
             let entries = s.overflow_lights;
             let mut t = s;
             let grown = inserted_at(entries, at, e);
             t.overflow_lights = grown;
-            t.overflow_count = (used + 1) as u16;
+            t.overflow_count = (in_use + 1) as u16;
             return LightChanged {
                 answer: LightAnswer::Accepted,
                 state: with_dirty(t, LIGHTS),
