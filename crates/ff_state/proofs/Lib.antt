@@ -4,3 +4,4 @@ pub mod Words
 pub mod Compaction
 pub mod Sorted
 pub mod Room
+pub mod Frame

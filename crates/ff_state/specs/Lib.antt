@@ -8,4 +8,5 @@ pub mod Slots
 pub mod Overflow
 pub mod Lights
 pub mod Active
+pub mod Inputs
 pub mod Valid

@@ -1,6 +1,8 @@
 -- The sections and their bits. Document 01, 'A refresh, from the top': WV 1, PROJ 2, MATERIAL 4, LIGHTS 8, PALETTE 16, TT 32.
 use Prim.Native.Nat.{ℕ, _+_}
+use mathlib.Core.Bool.{Bool}
 use mathlib.Core.List.{List, [], _∷_}
+use Rattle.ff_state.specs.Bits.{hasBit}
 use Rattle.ff_state.specs.declared.sections.Section.{Section}
 use Rattle.ff_state.specs.declared.sections.Section.the-variants.{Wv, Proj, Material, Lights, Palette, Tt}
 
@@ -22,3 +24,15 @@ bitsOf (σ ∷ σs) = bitOf σ + bitsOf σs
 
 abbrev pub allBits : ℕ
 allBits = bitsOf sections
+
+-- the place of a section's bit in a word, and whether a word has it
+abbrev pub bitPlace : Section → ℕ
+bitPlace Wv = 0
+bitPlace Proj = 1
+bitPlace Material = 2
+bitPlace Lights = 3
+bitPlace Palette = 4
+bitPlace Tt = 5
+
+abbrev pub hasSection : ℕ → Section → Bool
+hasSection w σ = hasBit w (bitPlace σ)

@@ -1,0 +1,243 @@
+-- A section that is not marked after a call has the inputs that it had before it (`unmarked-same`): a call that changes what a section is made from marks the section.
+-- Assumes nothing.
+use Prim.Native.Nat.{ℕ, zero, suc, _+_, _^_}
+use mathlib.Core.Path.{_≡_, refl, sym, ap, subst, _∙_}
+use mathlib.Core.Bool.{Bool, true, false, cond, _||_, _&&_}
+use native.Mathlib.Omega.{arith}
+use lib.Dec.{T, eqb, eqb·suc-zero, leb, ltb}
+use lib.ListN.{set, getD}
+use lib.Seq.{getD-set-other}
+use borrow.Author.Tests.{eqb-false, ne-eqb}
+use Rattle.lemmas.proofs.Branch.{branch}
+use mathlib.Core.List.{List}
+use Rattle.matrix.specs.Product.{matMul}
+use Rattle.d3d9_types.specs.Light.{defaultLight}
+use Rattle.d3d9_types.specs.declared.matrix.D3DMATRIX.{D3DMATRIX}
+use Rattle.d3d9_types.specs.declared.material.D3DMATERIAL9.{D3DMATERIAL9}
+use Rattle.d3d9_types.specs.declared.light.D3DLIGHT9.{D3DLIGHT9}
+use Rattle.ff_state.specs.Active.{activeLights, lightActiveMask}
+use Rattle.ff_state.specs.Overflow.{used, usedCount, insertedAt}
+use Rattle.ff_state.specs.Sections.{bitOf, bitsOf, bitPlace, hasSection, allBits}
+use Rattle.ff_state.specs.Bits.{hasBit, withBit}
+use Rattle.ff_state.specs.State.{noMatrix, entry, withMaterial, withLightEnabled, withOverflowLights, withOverflowCount}
+use Rattle.ff_state.specs.Dirty.{dirtied, markFfVsDirty, takeFfVsDirty}
+use Rattle.ff_state.specs.Transforms.{slotOf, placeSections, placeBits, placed, matrixAt, changeAt, setTransform, multiplyTransform}
+use Rattle.ff_state.specs.Material.{setMaterial}
+use Rattle.ff_state.specs.Lights.{setLightAt, setLightEnabledAt, changeEntry, replaceEntry, insertEntry, lightsBit, found, entryAt, flag}
+use Rattle.ff_state.specs.Slots.{setSlot, defineSlot, enableSlot}
+use Rattle.ff_state.specs.Inputs.{sameInputs, Change, setsTransform, multipliesTransform, setsMaterial, setsLight, enablesLight, marks, takes, changed}
+use Rattle.ff_state.specs.declared.sections.Section.{Section}
+use Rattle.ff_state.specs.declared.sections.Section.the-variants.{Wv, Proj, Material, Lights, Palette, Tt}
+use Rattle.ff_state.specs.declared.state.FfState.{FfState}
+use Rattle.ff_state.specs.declared.state.OverflowLight.{OverflowLight}
+use Rattle.ff_state.specs.declared.overflow.Found.{Found}
+use Rattle.ff_state.specs.declared.lights.LightChanged.{LightChanged}
+use Rattle.ff_state.specs.declared.dirty.Marked.{Marked}
+use Rattle.ff_state.specs.declared.transforms.Place.{Place}
+use Rattle.ff_state.specs.declared.transforms.Place.the-variants as Places
+use Rattle.ff_state.specs.declared.transforms.Slot.{Slot}
+use Rattle.ff_state.specs.declared.transforms.Slot.the-variants.{At, Unknown}
+use Rattle.ff_state.proofs.Words.{has-or}
+
+-- a bit that is not set after marking was not among those marked
+right-false : (a b : Bool) → (a || b) ≡ false → b ≡ false
+right-false true b e = absurd (subst T e tt)
+right-false false b e = e
+
+unmarked : (s : FfState) (bits : ℕ) (σ : Section) → hasSection (dirtied s bits .«ff_vs_dirty») σ ≡ false → hasSection bits σ ≡ false
+unfolding dirtied
+unmarked s bits σ e = right-false (hasBit (s .«ff_vs_dirty») (bitPlace σ)) (hasBit bits (bitPlace σ)) (sym (has-or (s .«ff_vs_dirty») bits (bitPlace σ)) ∙ e)
+
+never : {A : Type 0} → true ≡ false → A
+never e = absurd (subst T e tt)
+
+same : (σ : Section) (s : FfState) → sameInputs σ s s
+same Wv s = (refl, refl)
+same Proj s = refl
+same Material s = refl
+same Lights s = (refl, refl)
+same Palette s = (refl, refl)
+same Tt s = refl
+
+-- marking more bits changes no input
+marked-same : (σ : Section) (s t : FfState) (bits : ℕ) → sameInputs σ s t → sameInputs σ s (dirtied t bits)
+unfolding dirtied activeLights lightActiveMask used
+marked-same Wv s t bits h = h
+marked-same Proj s t bits h = h
+marked-same Material s t bits h = h
+marked-same Lights s t bits h = h
+marked-same Palette s t bits h = h
+marked-same Tt s t bits h = h
+
+-- ---- transforms
+
+placed-same : (s : FfState) (p : Place) (m : D3DMATRIX) (σ : Section) → hasSection (placeBits p) σ ≡ false → sameInputs σ s (placed s p m)
+unfolding placed placeSections hasBit activeLights lightActiveMask used
+placed-same s Places.View m Wv e = never e
+placed-same s Places.View m Proj e = refl
+placed-same s Places.View m Material e = refl
+placed-same s Places.View m Lights e = never e
+placed-same s Places.View m Palette e = never e
+placed-same s Places.View m Tt e = refl
+placed-same s Places.Projection m Wv e = (refl, refl)
+placed-same s Places.Projection m Proj e = never e
+placed-same s Places.Projection m Material e = refl
+placed-same s Places.Projection m Lights e = (refl, refl)
+placed-same s Places.Projection m Palette e = (refl, refl)
+placed-same s Places.Projection m Tt e = refl
+placed-same s (Places.Texture i) m Wv e = (refl, refl)
+placed-same s (Places.Texture i) m Proj e = refl
+placed-same s (Places.Texture i) m Material e = refl
+placed-same s (Places.Texture i) m Lights e = (refl, refl)
+placed-same s (Places.Texture i) m Palette e = (refl, refl)
+placed-same s (Places.Texture i) m Tt e = never e
+placed-same s (Places.Palette zero) m Wv e = never e
+placed-same s (Places.Palette zero) m Proj e = refl
+placed-same s (Places.Palette zero) m Material e = refl
+placed-same s (Places.Palette zero) m Lights e = (refl, refl)
+placed-same s (Places.Palette zero) m Palette e = never e
+placed-same s (Places.Palette zero) m Tt e = refl
+placed-same s (Places.Palette (suc i)) m Wv e = (refl, sym (getD-set-other (s .«world_palette») (suc i) 0 m noMatrix (λ (q : 0 ≡ suc i). omega arith)))
+placed-same s (Places.Palette (suc i)) m Proj e = refl
+placed-same s (Places.Palette (suc i)) m Material e = refl
+placed-same s (Places.Palette (suc i)) m Lights e = (refl, refl)
+placed-same s (Places.Palette (suc i)) m Palette e = never (rw (eqb·suc-zero i) at e)
+placed-same s (Places.Palette (suc i)) m Tt e = refl
+
+place-same : (s : FfState) (p : Slot) (f : Place → D3DMATRIX) (σ : Section) → hasSection (changeAt s p f .state .«ff_vs_dirty») σ ≡ false → sameInputs σ s (changeAt s p f .state)
+unfolding changeAt
+place-same s (At p) f σ e = marked-same σ s (placed s p (f p)) (placeBits p) (placed-same s p (f p) σ (unmarked (placed s p (f p)) (placeBits p) σ e))
+place-same s Unknown f σ e = same σ s
+
+-- ---- the material
+
+material-same : (s : FfState) (m : D3DMATERIAL9) (σ : Section) → hasSection (setMaterial s m .«ff_vs_dirty») σ ≡ false → sameInputs σ s (setMaterial s m)
+unfolding setMaterial hasBit activeLights lightActiveMask used
+material-same s m σ e = marked-same σ s (withMaterial s m) (bitOf Material) (stored σ (unmarked (withMaterial s m) (bitOf Material) σ e))
+  where
+    stored : (σ : Section) → hasSection (bitOf Material) σ ≡ false → sameInputs σ s (withMaterial s m)
+    stored Wv h = (refl, refl)
+    stored Proj h = refl
+    stored Material h = never h
+    stored Lights h = (refl, refl)
+    stored Palette h = (refl, refl)
+    stored Tt h = refl
+
+-- ---- lights: nothing but LIGHTS is made from what they change
+
+abbrev OnlyLights : FfState → FfState → Type 0
+OnlyLights s t = (σ : Section) → hasSection lightsBit σ ≡ false → sameInputs σ s t
+
+lights-same : (s t : FfState) (σ : Section) → OnlyLights s t → hasSection (dirtied t lightsBit .«ff_vs_dirty») σ ≡ false → sameInputs σ s (dirtied t lightsBit)
+lights-same s t σ h e = marked-same σ s t lightsBit (h σ (unmarked t lightsBit σ e))
+
+set-slot-only : (s : FfState) (i : ℕ) (l : D3DLIGHT9) → OnlyLights s (setSlot s i l)
+unfolding setSlot hasBit
+set-slot-only s i l Wv h = (refl, refl)
+set-slot-only s i l Proj h = refl
+set-slot-only s i l Material h = refl
+set-slot-only s i l Lights h = never h
+set-slot-only s i l Palette h = (refl, refl)
+set-slot-only s i l Tt h = refl
+
+define-slot-only : (s : FfState) (i : ℕ) → OnlyLights s (defineSlot s i)
+unfolding defineSlot
+define-slot-only s i =
+    branch (OnlyLights s) (hasBit (s .«light_defined_mask») i) s (setSlot s i defaultLight)
+    (λ e. λ (σ : Section) (h : hasSection lightsBit σ ≡ false). same σ s)
+    (λ e. set-slot-only s i defaultLight)
+
+enabled-only : (s t : FfState) (x : ℕ) → OnlyLights s t → OnlyLights s (withLightEnabled t x)
+unfolding hasBit
+enabled-only s t x h Wv e = h Wv e
+enabled-only s t x h Proj e = h Proj e
+enabled-only s t x h Material e = h Material e
+enabled-only s t x h Lights e = never e
+enabled-only s t x h Palette e = h Palette e
+enabled-only s t x h Tt e = h Tt e
+
+enable-slot-only : (s : FfState) (i : ℕ) (on : Bool) → OnlyLights s (enableSlot s i on)
+unfolding enableSlot
+enable-slot-only s i on = enabled-only s (defineSlot s i) (withBit (defineSlot s i .«light_enabled») i on) (define-slot-only s i)
+
+entries-only : (s : FfState) (es : List OverflowLight) (n : ℕ) → OnlyLights s (withOverflowCount (withOverflowLights s es) n)
+unfolding hasBit
+entries-only s es n Wv e = (refl, refl)
+entries-only s es n Proj e = refl
+entries-only s es n Material e = refl
+entries-only s es n Lights e = never e
+entries-only s es n Palette e = (refl, refl)
+entries-only s es n Tt e = refl
+
+-- an answer whose state keeps the inputs of every section that it leaves unmarked
+abbrev Keeps : FfState → Section → LightChanged → Type 0
+Keeps s σ r = hasSection (r .state .«ff_vs_dirty») σ ≡ false → sameInputs σ s (r .state)
+
+replace-keeps : (s : FfState) (at : ℕ) (x : OverflowLight) (σ : Section) → Keeps s σ (replaceEntry s at x)
+unfolding replaceEntry
+replace-keeps s at x σ =
+    lights-same s (withOverflowLights s (set (s .«overflow_lights») at x)) σ (entries-only s (set (s .«overflow_lights») at x) (s .«overflow_count»))
+
+insert-keeps : (s : FfState) (at : ℕ) (x : OverflowLight) (σ : Section) → Keeps s σ (insertEntry s at x)
+unfolding insertEntry
+insert-keeps s at x σ =
+    let n = usedCount (s .«overflow_count») in
+    branch (Keeps s σ) (ltb n 56 && ltb at 56) _ _
+    (λ e. lights-same s (withOverflowCount (withOverflowLights s (insertedAt at x (s .«overflow_lights»))) (n + 1)) σ (entries-only s (insertedAt at x (s .«overflow_lights»)) (n + 1)))
+    (λ e h. same σ s)
+
+entry-keeps : (s : FfState) (f : Found) (change : OverflowLight → OverflowLight) (made : OverflowLight) (σ : Section) → Keeps s σ (changeEntry s f change made)
+unfolding changeEntry
+entry-keeps s f change made σ =
+    branch (Keeps s σ) (f .stored) _ _ (λ e. replace-keeps s (f .at) (change (entryAt s (f .at))) σ) (λ e. insert-keeps s (f .at) made σ)
+
+set-light-keeps : (s : FfState) (i : ℕ) (l : D3DLIGHT9) (σ : Section) → Keeps s σ (setLightAt s i l)
+unfolding setLightAt
+set-light-keeps s i l σ =
+    branch (Keeps s σ) (ltb i 8) _ _
+    (λ e. lights-same s (setSlot s i l) σ (set-slot-only s i l))
+    (λ e. entry-keeps s (found s i) (λ (x : OverflowLight). entry (x .index) (x .enabled) l) (entry i 0 l) σ)
+
+enable-light-keeps : (s : FfState) (i : ℕ) (on : Bool) (σ : Section) → Keeps s σ (setLightEnabledAt s i on)
+unfolding setLightEnabledAt
+enable-light-keeps s i on σ =
+    branch (Keeps s σ) (ltb i 8) _ _
+    (λ e. lights-same s (enableSlot s i on) σ (enable-slot-only s i on))
+    (λ e. entry-keeps s (found s i) (λ (x : OverflowLight). entry (x .index) (flag on) (x .light)) (entry i (flag on) defaultLight) σ)
+
+-- ---- marking and taking
+
+mark-keeps : (s : FfState) (bits : ℕ) (σ : Section) → sameInputs σ s (markFfVsDirty s bits .state)
+unfolding markFfVsDirty
+mark-keeps s bits σ =
+    branch (λ (r : Marked). sameInputs σ s (r .state)) (leb bits allBits) _ _ (λ e. marked-same σ s s bits (same σ s)) (λ e. same σ s)
+
+take-keeps : (s : FfState) (σ : Section) → sameInputs σ s (takeFfVsDirty s .state)
+unfolding takeFfVsDirty activeLights lightActiveMask used
+take-keeps s Wv = (refl, refl)
+take-keeps s Proj = refl
+take-keeps s Material = refl
+take-keeps s Lights = (refl, refl)
+take-keeps s Palette = (refl, refl)
+take-keeps s Tt = refl
+
+-- ---- every call
+
+pub unmarked-same : (s : FfState) (c : Change) (σ : Section) → hasSection (changed s c .«ff_vs_dirty») σ ≡ false → sameInputs σ s (changed s c)
+unfolding changed setTransform multiplyTransform
+unmarked-same s (setsTransform n m) σ e = place-same s (slotOf n) (λ (p : Place). m) σ e
+unmarked-same s (multipliesTransform n m) σ e = place-same s (slotOf n) (λ (p : Place). matMul (matrixAt s p) m) σ e
+unmarked-same s (setsMaterial m) σ e = material-same s m σ e
+unmarked-same s (setsLight i l) σ e = set-light-keeps s i l σ e
+unmarked-same s (enablesLight i on) σ e = enable-light-keeps s i on σ e
+unmarked-same s (marks bits) σ e = mark-keeps s bits σ
+unmarked-same s takes σ e = take-keeps s σ
+
+-- a section's bit stands at its place
+pub bit-place : (σ : Section) → bitOf σ ≡ 2 ^ bitPlace σ
+bit-place Wv = refl
+bit-place Proj = refl
+bit-place Material = refl
+bit-place Lights = refl
+bit-place Palette = refl
+bit-place Tt = refl
