@@ -16,10 +16,12 @@ use Rattle.d3d9_types.specs.declared.matrix.D3DMATRIX.{D3DMATRIX}
 use Rattle.d3d9_types.specs.declared.material.D3DMATERIAL9.{D3DMATERIAL9}
 use Rattle.d3d9_types.specs.declared.light.D3DLIGHT9.{D3DLIGHT9}
 use Rattle.ff_state.specs.Active.{activeLights, lightActiveMask}
-use Rattle.ff_state.specs.Overflow.{used, usedCount, insertedAt}
+use Rattle.ff_state.specs.Overflow.{used}
+use Rattle.light_table.specs.Overflow.{usedCount, insertedAt}
 use Rattle.ff_state.specs.Sections.{bitOf, bitsOf, bitPlace, hasSection, allBits}
-use Rattle.ff_state.specs.Bits.{hasBit, withBit}
-use Rattle.ff_state.specs.State.{noMatrix, entry, withMaterial, withLightEnabled, withOverflowLights, withOverflowCount}
+use Rattle.light_table.specs.Bits.{hasBit, withBit}
+use Rattle.ff_state.specs.State.{noMatrix, withMaterial, withLightEnabled, withOverflowLights, withOverflowCount}
+use Rattle.light_table.specs.Entry.{entry}
 use Rattle.ff_state.specs.Dirty.{dirtied, markFfVsDirty, takeFfVsDirty}
 use Rattle.ff_state.specs.Transforms.{slotOf, placeSections, placeBits, placed, matrixAt, changeAt, setTransform, multiplyTransform}
 use Rattle.ff_state.specs.Material.{setMaterial}
@@ -29,15 +31,15 @@ use Rattle.ff_state.specs.Inputs.{sameInputs, Change, setsTransform, mul
 use Rattle.ff_state.specs.declared.sections.Section.{Section}
 use Rattle.ff_state.specs.declared.sections.Section.the-variants.{Wv, Proj, Material, Lights, Palette, Tt}
 use Rattle.ff_state.specs.declared.state.FfState.{FfState}
-use Rattle.ff_state.specs.declared.state.OverflowLight.{OverflowLight}
-use Rattle.ff_state.specs.declared.overflow.Found.{Found}
+use Rattle.light_table.specs.declared.entry.OverflowLight.{OverflowLight}
+use Rattle.light_table.specs.declared.overflow.Found.{Found}
 use Rattle.ff_state.specs.declared.lights.LightChanged.{LightChanged}
 use Rattle.ff_state.specs.declared.dirty.Marked.{Marked}
 use Rattle.ff_state.specs.declared.transforms.Place.{Place}
 use Rattle.ff_state.specs.declared.transforms.Place.the-variants as Places
 use Rattle.ff_state.specs.declared.transforms.Slot.{Slot}
 use Rattle.ff_state.specs.declared.transforms.Slot.the-variants.{At, Unknown}
-use Rattle.ff_state.proofs.Words.{has-or}
+use Rattle.light_table.proofs.Words.{has-or}
 
 -- a bit that is not set after marking was not among those marked
 right-false : (a b : Bool) → (a || b) ≡ false → b ≡ false

@@ -7,15 +7,15 @@ use lib.Dec.{ltb}
 use borrow.Author.Tests.{lt-ltb, le-ltb, ltb-true, ltb-false}
 use Rattle.d3d9_types.specs.Light.{defaultLight}
 use Rattle.d3d9_types.specs.declared.light.D3DLIGHT9.{D3DLIGHT9}
-use Rattle.ff_state.specs.State.{entry}
+use Rattle.light_table.specs.Entry.{entry}
 use Rattle.ff_state.specs.Slots.{setSlot, enableSlot}
-use Rattle.ff_state.specs.Overflow.{usedCount}
+use Rattle.light_table.specs.Overflow.{usedCount}
 use Rattle.ff_state.specs.Lights.{found, flag, hasRoom, inSlot, replaceEntry, insertEntry, changeEntry, setLightAt, setLightEnabledAt, lightNumber}
 use Rattle.ff_state.specs.declared.state.FfState.{FfState}
-use Rattle.ff_state.specs.declared.state.OverflowLight.{OverflowLight}
+use Rattle.light_table.specs.declared.entry.OverflowLight.{OverflowLight}
 use Rattle.ff_state.specs.declared.lights.LightAnswer.the-variants.{Full}
 use Rattle.ff_state.specs.declared.lights.LightChanged.{LightChanged}
-use Rattle.ff_state.proofs.overflow.LowerBound.{used-most}
+use Rattle.light_table.proofs.LowerBound.{used-most}
 use Rattle.ff_state.proofs.lights.Found.{place-used-most}
 
 neither : (a b : Bool) → (a || b) ≡ false → (a ≡ false) × (b ≡ false)

@@ -1,5 +1,4 @@
 pub mod Sections
-pub mod Bits
 pub mod State
 pub mod Dirty
 pub mod Transforms

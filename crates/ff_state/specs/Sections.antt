@@ -2,7 +2,7 @@
 use Prim.Native.Nat.{ℕ, _+_}
 use mathlib.Core.Bool.{Bool}
 use mathlib.Core.List.{List, [], _∷_}
-use Rattle.ff_state.specs.Bits.{hasBit}
+use Rattle.light_table.specs.Bits.{hasBit}
 use Rattle.ff_state.specs.declared.sections.Section.{Section}
 use Rattle.ff_state.specs.declared.sections.Section.the-variants.{Wv, Proj, Material, Lights, Palette, Tt}
 

@@ -1,17 +1,14 @@
 -- The eight light slots and their masks (ff_state.rs 508–531, 724–756).
 use Prim.Native.Nat.{ℕ}
-use mathlib.Core.Bool.{Bool, true, cond, _&&_}
-use lib.Dec.{ltb, leb, eqb}
+use mathlib.Core.Bool.{Bool, true, cond}
+use lib.Dec.{eqb}
 use lib.ListN.{set}
 use Rattle.d3d9_types.specs.Light.{defaultLight}
 use Rattle.d3d9_types.specs.declared.light.D3DLIGHT9.{D3DLIGHT9}
-use Rattle.ff_state.specs.Bits.{hasBit, withBit}
+use Rattle.light_table.specs.Bits.{hasBit, withBit}
+use Rattle.light_table.specs.Kinds.{contributes}
 use Rattle.ff_state.specs.State.{withLights, withLightEnabled, withLightSetMask, withLightDefinedMask, withLightDirectionalMask, withLightSpotMask}
 use Rattle.ff_state.specs.declared.state.FfState.{FfState}
-
--- "Types other than 1 point, 2 spot, 3 directional are stored and light nothing."
-unfoldable pub contributes : ℕ → Bool
-contributes t = leb 1 t && ltb t 4
 
 -- a light in a slot: its masks follow its type, and its enable stays
 unfoldable pub setSlot : FfState → ℕ → D3DLIGHT9 → FfState

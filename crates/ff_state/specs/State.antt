@@ -5,8 +5,6 @@ use Prim.Native.Nat.{ℕ}
 use mathlib.Core.List.{List}
 use lib.Ieee.{nan}
 use lib.ListN.{replicate}
-use Rattle.d3d9_types.specs.Numbers.{zero}
-use Rattle.d3d9_types.specs.Color.{black}
 use Rattle.d3d9_types.specs.Matrix.{identity}
 use Rattle.d3d9_types.specs.Material.{defaultMaterial}
 use Rattle.d3d9_types.specs.Light.{defaultLight}
@@ -14,9 +12,10 @@ use Rattle.d3d9_types.specs.declared.matrix.Row.{Row}
 use Rattle.d3d9_types.specs.declared.matrix.D3DMATRIX.{D3DMATRIX}
 use Rattle.d3d9_types.specs.declared.material.D3DMATERIAL9.{D3DMATERIAL9}
 use Rattle.d3d9_types.specs.declared.light.D3DLIGHT9.{D3DLIGHT9}
+use Rattle.light_table.specs.Entry.{zeroEntry}
 use Rattle.ff_state.specs.Sections.{allBits}
 use Rattle.ff_state.specs.declared.state.FfState.{FfState}
-use Rattle.ff_state.specs.declared.state.OverflowLight.{OverflowLight}
+use Rattle.light_table.specs.declared.entry.OverflowLight.{OverflowLight}
 
 abbrev pub withView : FfState → D3DMATRIX → FfState
 withView s x =
@@ -318,35 +317,9 @@ withFfVsDirty s x =
       «ff_vs_dirty» = x;
     }
 
--- the light of an unused entry: every number 0
-unfoldable pub zeroLight : D3DLIGHT9
-zeroLight =
-    record {
-      «type_» = 0;
-      diffuse = black;
-      specular = black;
-      ambient = black;
-      position = record { x = zero; y = zero; z = zero };
-      direction = record { x = zero; y = zero; z = zero };
-      range = zero;
-      falloff = zero;
-      attenuation0 = zero;
-      attenuation1 = zero;
-      attenuation2 = zero;
-      theta = zero;
-      phi = zero;
-    }
-
 -- What the language gives past the end of an array of matrices. No array of a state is shorter than its indices, so it is never read.
 abbrev pub noMatrix : D3DMATRIX
 noMatrix = let r : Row = record { x = nan; y = nan; z = nan; w = nan } in record { r0 = r; r1 = r; r2 = r; r3 = r }
-
--- an entry of the overflow table; an unused one is all zeros
-abbrev pub entry : ℕ → ℕ → D3DLIGHT9 → OverflowLight
-entry i e l = record { index = i; enabled = e; light = l }
-
-unfoldable pub zeroEntry : OverflowLight
-zeroEntry = entry 0 0 zeroLight
 
 -- Document 01: identities, the default material, no light, every bit dirty (ff_state.rs 258–300). Undefined slots hold the default light.
 unfoldable pub freshState : FfState

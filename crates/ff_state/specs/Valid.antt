@@ -11,10 +11,12 @@ use Rattle.d3d9_types.specs.Matrix.{matrixFits}
 use Rattle.d3d9_types.specs.Material.{materialFits}
 use Rattle.d3d9_types.specs.declared.light.D3DLIGHT9.{D3DLIGHT9}
 use Rattle.ff_state.specs.Sections.{allBits}
-use Rattle.ff_state.specs.Bits.{hasBit}
-use Rattle.ff_state.specs.State.{zeroEntry, noMatrix}
-use Rattle.ff_state.specs.Slots.{contributes}
-use Rattle.ff_state.specs.Overflow.{used, ascending}
+use Rattle.light_table.specs.Bits.{hasBit}
+use Rattle.light_table.specs.Entry.{zeroEntry}
+use Rattle.ff_state.specs.State.{noMatrix}
+use Rattle.light_table.specs.Kinds.{contributes}
+use Rattle.ff_state.specs.Overflow.{used}
+use Rattle.light_table.specs.Overflow.{ascending}
 use Rattle.ff_state.specs.declared.state.FfState.{FfState}
 
 -- the light in a slot

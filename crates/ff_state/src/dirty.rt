@@ -1,9 +1,9 @@
 // The dirty bits: marked, and taken.
 ghost use mathlib.Core.Path.{_≡_};
 ghost use Rattle.ff_state.specs.Dirty.{dirtied, markFfVsDirty, takeFfVsDirty};
-use crate::bits::wide8;
 use crate::sections::ALL;
 use crate::state::FfState;
+use light_table::wide8;
 
 pub enum MarkAnswer {
     Accepted,

@@ -2,18 +2,14 @@
 // the dirty bits of the constant sections. A call takes the state and returns it; a refused call
 // returns it as it was.
 mod active;
-mod bits;
 mod dirty;
 mod lights;
 mod material;
-mod overflow;
 mod sections;
 mod slots;
 mod state;
 mod transforms;
 
-pub use active::ActiveLights;
-pub use active::LightMasks;
 pub use dirty::MarkAnswer;
 pub use dirty::Marked;
 pub use dirty::Taken;
@@ -23,7 +19,6 @@ pub use lights::LightRead;
 pub use sections::Section;
 pub use sections::section_bit;
 pub use state::FfState;
-pub use state::OverflowLight;
 pub use transforms::Place;
 pub use transforms::Slot;
 pub use transforms::TransformAnswer;

@@ -3,18 +3,18 @@ ghost use mathlib.Core.Path.{_≡_};
 ghost use Prim.Native.Nat.{_≤_, _<_};
 ghost use Rattle.ff_state.specs.Lights.{hasRoom, setLightAt, setLightEnabledAt, getLightAt, isLightEnabledAt, isLightDefinedAt};
 ghost use Rattle.ff_state.specs.Lights.{replaceEntry, insertEntry};
-use crate::bits::has_bit;
 use crate::dirty::with_dirty;
-use crate::overflow::find;
-use crate::overflow::inserted_at;
-use crate::overflow::used_count;
 use crate::sections::LIGHTS;
 use crate::slots::enable_slot;
 use crate::slots::set_slot;
 use crate::state::FfState;
-use crate::state::OverflowLight;
 use d3d9_types::D3DLIGHT9;
 use d3d9_types::default_light;
+use light_table::OverflowLight;
+use light_table::find;
+use light_table::has_bit;
+use light_table::inserted_at;
+use light_table::used_count;
 
 pub enum LightAnswer {
     Accepted,

@@ -1,24 +1,16 @@
 // The eight light slots and their masks.
 ghost use mathlib.Core.Path.{_≡_};
 ghost use Prim.Native.Nat.{_<_};
-ghost use Rattle.ff_state.specs.Slots.{contributes, setSlot, enableSlot, defineSlot};
-use crate::bits::has_bit;
-use crate::bits::with_bit;
+ghost use Rattle.light_table.specs.Kinds.{contributes};
+ghost use Rattle.ff_state.specs.Slots.{setSlot, enableSlot, defineSlot};
 use crate::state::FfState;
 use d3d9_types::D3DLIGHT_DIRECTIONAL;
 use d3d9_types::D3DLIGHT_SPOT;
 use d3d9_types::D3DLIGHT9;
 use d3d9_types::default_light;
-
-// Whether a light of this type lights anything.
-pub fn light_type_contributes(type_: u32) -> bool
-    ensures { λ r. ⌜ r ≡ contributes «type_» ⌝ }
-{
-    if type_ < 1 {
-        return false;
-    }
-    type_ < 4
-}
+use light_table::has_bit;
+use light_table::light_type_contributes;
+use light_table::with_bit;
 
 // The state with a light stored in slot i. Its enable stays.
 pub fn set_slot(s: FfState, i: usize, light: D3DLIGHT9) -> FfState

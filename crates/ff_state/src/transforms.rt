@@ -3,7 +3,6 @@ ghost use mathlib.Core.Path.{_≡_};
 ghost use Prim.Native.Nat.{_<_};
 ghost use Rattle.ff_state.specs.Transforms.{slotOf, InRange, matrixAt, placed, placeBits, setTransform, multiplyTransform, transformOf};
 ghost use Rattle.ff_state.specs.Transforms as Transforms;
-use crate::bits::wide16;
 use crate::dirty::with_dirty;
 use crate::sections::LIGHTS;
 use crate::sections::PALETTE;
@@ -12,6 +11,7 @@ use crate::sections::TT;
 use crate::sections::WV;
 use crate::state::FfState;
 use d3d9_types::D3DMATRIX;
+use light_table::wide16;
 use matrix::mat_mul;
 
 // Where a transform is stored.

@@ -7,11 +7,11 @@ use mir.Val.{boolByte}
 use Rattle.ff_state.specs.Dirty.{dirtied}
 use Rattle.ff_state.specs.Lights.{lightsBit, flag, found, inSlot, entryAt, replaceEntry, insertEntry, changeEntry}
 use Rattle.ff_state.specs.declared.state.FfState.{FfState}
-use Rattle.ff_state.specs.declared.state.OverflowLight.{OverflowLight}
-use Rattle.ff_state.specs.declared.overflow.Found.{Found}
+use Rattle.light_table.specs.declared.entry.OverflowLight.{OverflowLight}
+use Rattle.light_table.specs.declared.overflow.Found.{Found}
 use Rattle.ff_state.specs.declared.lights.LightAnswer.the-variants.{Accepted}
 use Rattle.ff_state.specs.declared.lights.LightChanged.{LightChanged}
-use Rattle.ff_state.proofs.Words.{flag-is}
+use Rattle.light_table.proofs.Words.{flag-is}
 use Rattle.ff_state.proofs.lights.Found.{entry-there}
 
 -- the code's number of a bool

@@ -4,14 +4,15 @@ use native.Mathlib.Omega.{arith}
 use mathlib.Core.Path.{_≡_, refl, sym, ap, subst, _∙_}
 use mathlib.Core.Bool.{true}
 use lib.ListN.{length, take, getD, length-take}
-use Rattle.ff_state.specs.State.{zeroEntry}
-use Rattle.ff_state.specs.Overflow.{usedCount, used, findEntry}
+use Rattle.light_table.specs.Entry.{zeroEntry}
+use Rattle.light_table.specs.Overflow.{usedCount, findEntry}
+use Rattle.ff_state.specs.Overflow.{used}
 use Rattle.ff_state.specs.Lights.{found, entryAt}
 use Rattle.ff_state.specs.declared.state.FfState.{FfState}
-use Rattle.ff_state.specs.declared.state.OverflowLight.{OverflowLight}
-use Rattle.ff_state.specs.declared.overflow.Found.{Found}
-use Rattle.ff_state.proofs.Lists.{getD-default}
-use Rattle.ff_state.proofs.overflow.LowerBound.{used-most, bound-most, stored-below}
+use Rattle.light_table.specs.declared.entry.OverflowLight.{OverflowLight}
+use Rattle.light_table.specs.declared.overflow.Found.{Found}
+use Rattle.light_table.proofs.Lists.{getD-default}
+use Rattle.light_table.proofs.LowerBound.{used-most, bound-most, stored-below}
 
 -- the code's search, of the count as it reads and the entries before it
 pub searched : (s : FfState) (i n : ℕ) (f : Found) → n ≡ usedCount (s .«overflow_count») → f ≡ findEntry (take n (s .«overflow_lights»)) i → f ≡ found s i

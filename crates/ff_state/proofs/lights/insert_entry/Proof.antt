@@ -7,7 +7,7 @@ use borrow.Author.Needs.{needs}
 use borrow.Author.Tests.{lt-ltb, le-ltb}
 use Rattle.ff_state.specs.State.{withOverflowLights, withOverflowCount}
 use Rattle.ff_state.specs.Lights.{inSlot, insertEntry}
-use Rattle.ff_state.specs.declared.state.OverflowLight.{OverflowLight}
+use Rattle.light_table.specs.declared.entry.OverflowLight.{OverflowLight}
 use Rattle.ff_state.proofs.lights.Change.{accepted}
 use Rattle.ff_state.proofs.lights.insert_entry.Statement.{statement}
 use Rattle.ff_state.proofs.lights.insert_entry.Tie as tie

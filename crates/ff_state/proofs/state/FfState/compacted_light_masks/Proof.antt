@@ -3,10 +3,11 @@ use Prim.Native.Nat.{ℕ, _≤_}
 use mathlib.Core.Path.{_≡_, refl, sym, ap, subst, _∙_}
 use borrow.Author.Needs.{needs}
 use lib.ListN.{length, take}
-use Rattle.ff_state.specs.Active.{activeLights, listed, kindMask, lowBits, masksOf, compactedLightMasks, resolveActiveLights}
-use Rattle.ff_state.specs.declared.active.ActiveLights.{ActiveLights}
-use Rattle.ff_state.specs.declared.active.LightMasks.{LightMasks}
-use Rattle.ff_state.proofs.Compaction.{listed-len, listed-front}
+use Rattle.ff_state.specs.Active.{activeLights, compactedLightMasks, resolveActiveLights}
+use Rattle.light_table.specs.Active.{listed, kindMask, lowBits, masksOf}
+use Rattle.light_table.specs.declared.active.ActiveLights.{ActiveLights}
+use Rattle.light_table.specs.declared.active.LightMasks.{LightMasks}
+use Rattle.light_table.proofs.Compaction.{listed-len, listed-front}
 use Rattle.ff_state.proofs.state.FfState.compacted_light_masks.Statement.{statement}
 use Rattle.ff_state.proofs.state.FfState.compacted_light_masks.Tie as tie
 

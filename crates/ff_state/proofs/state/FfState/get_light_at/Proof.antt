@@ -7,10 +7,10 @@ use borrow.Author.Needs.{needs}
 use borrow.Author.Tests.{lt-ltb, le-ltb}
 use Rattle.d3d9_types.specs.Light.{defaultLight}
 use Rattle.ff_state.specs.Lights.{getLightAt, found}
-use Rattle.ff_state.specs.declared.state.OverflowLight.{OverflowLight}
+use Rattle.light_table.specs.declared.entry.OverflowLight.{OverflowLight}
 use Rattle.ff_state.specs.declared.lights.LightRead.the-variants.{Light}
-use Rattle.ff_state.proofs.Lists.{getD-default}
-use Rattle.ff_state.proofs.overflow.LowerBound.{used-most}
+use Rattle.light_table.proofs.Lists.{getD-default}
+use Rattle.light_table.proofs.LowerBound.{used-most}
 use Rattle.ff_state.proofs.lights.Found.{searched, place-below, entry-there}
 use Rattle.ff_state.proofs.state.FfState.get_light_at.Statement.{statement}
 use Rattle.ff_state.proofs.state.FfState.get_light_at.Tie as tie

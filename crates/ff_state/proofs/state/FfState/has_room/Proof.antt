@@ -4,8 +4,8 @@ use mathlib.Core.Path.{ap}
 use borrow.Author.Needs.{needs}
 use borrow.Author.Tests.{lt-ltb, le-ltb}
 use Rattle.ff_state.specs.Lights.{hasRoom}
-use Rattle.ff_state.specs.declared.overflow.Found.{Found}
-use Rattle.ff_state.proofs.overflow.LowerBound.{used-most}
+use Rattle.light_table.specs.declared.overflow.Found.{Found}
+use Rattle.light_table.proofs.LowerBound.{used-most}
 use Rattle.ff_state.proofs.lights.Found.{searched}
 use Rattle.ff_state.proofs.state.FfState.has_room.Statement.{statement}
 use Rattle.ff_state.proofs.state.FfState.has_room.Tie as tie

@@ -7,8 +7,8 @@ use lib.Dec.{eqb}
 use borrow.Author.Needs.{needs}
 use borrow.Author.Tests.{lt-ltb, le-ltb}
 use Rattle.ff_state.specs.Lights.{isLightEnabledAt, found}
-use Rattle.ff_state.specs.declared.state.OverflowLight.{OverflowLight}
-use Rattle.ff_state.proofs.overflow.LowerBound.{used-most}
+use Rattle.light_table.specs.declared.entry.OverflowLight.{OverflowLight}
+use Rattle.light_table.proofs.LowerBound.{used-most}
 use Rattle.ff_state.proofs.lights.Found.{searched, place-below, entry-there}
 use Rattle.ff_state.proofs.state.FfState.is_light_enabled_at.Statement.{statement}
 use Rattle.ff_state.proofs.state.FfState.is_light_enabled_at.Tie as tie

@@ -3,7 +3,8 @@ use mathlib.Core.Path.{_≡_, refl}
 use lib.Ieee.{ofBits}
 use borrow.Author.Needs.{needs}
 use Rattle.d3d9_types.specs.Matrix.{identity}
-use Rattle.ff_state.specs.State.{zeroEntry, freshState}
+use Rattle.light_table.specs.Entry.{zeroEntry}
+use Rattle.ff_state.specs.State.{freshState}
 use Rattle.ff_state.proofs.state.FfState.new.Statement.{statement}
 use Rattle.ff_state.proofs.state.FfState.new.Tie as tie
 

@@ -5,10 +5,11 @@ use mathlib.Core.List.{List}
 use lib.ListN.{take}
 use borrow.Author.Needs.{needs}
 use Rattle.ff_state.specs.Overflow.{used}
-use Rattle.ff_state.specs.Active.{activeSlots, activeOverflow, lightActiveMask, activeLights, pushAll, resolveActiveLights}
-use Rattle.ff_state.specs.declared.active.ActiveLights.{ActiveLights}
-use Rattle.ff_state.proofs.Compaction.{pushed-two}
-use Rattle.ff_state.proofs.overflow.LowerBound.{used-most}
+use Rattle.light_table.specs.Active.{activeSlots, activeOverflow, pushAll}
+use Rattle.ff_state.specs.Active.{lightActiveMask, activeLights, resolveActiveLights}
+use Rattle.light_table.specs.declared.active.ActiveLights.{ActiveLights}
+use Rattle.light_table.proofs.Compaction.{pushed-two}
+use Rattle.light_table.proofs.LowerBound.{used-most}
 use Rattle.ff_state.proofs.state.FfState.resolve_active_lights.Statement.{statement}
 use Rattle.ff_state.proofs.state.FfState.resolve_active_lights.Tie as tie
 

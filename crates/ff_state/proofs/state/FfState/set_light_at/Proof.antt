@@ -4,9 +4,9 @@ use mathlib.Core.Path.{_≡_, _∙_}
 use native.Mathlib.Omega.{arith}
 use borrow.Author.Needs.{needs}
 use borrow.Author.Tests.{lt-ltb, le-ltb}
-use Rattle.ff_state.specs.State.{entry}
+use Rattle.light_table.specs.Entry.{entry}
 use Rattle.ff_state.specs.Lights.{setLightAt, found}
-use Rattle.ff_state.proofs.overflow.LowerBound.{used-most}
+use Rattle.light_table.proofs.LowerBound.{used-most}
 use Rattle.ff_state.proofs.lights.Found.{searched, place-most, place-below}
 use Rattle.ff_state.proofs.lights.Change.{slot-changed, entry-changed, entry-made}
 use Rattle.ff_state.proofs.state.FfState.set_light_at.Statement.{statement}

@@ -7,9 +7,9 @@ use mir.Val.{boolByte}
 use borrow.Author.Tests.{lt-ltb, le-ltb}
 use Rattle.d3d9_types.specs.Light.{defaultLight}
 use Rattle.d3d9_types.specs.declared.light.D3DLIGHT9.{D3DLIGHT9}
-use Rattle.ff_state.specs.State.{entry}
+use Rattle.light_table.specs.Entry.{entry}
 use Rattle.ff_state.specs.Lights.{setLightEnabledAt, insertEntry, found}
-use Rattle.ff_state.proofs.overflow.LowerBound.{used-most}
+use Rattle.light_table.proofs.LowerBound.{used-most}
 use Rattle.ff_state.proofs.lights.Found.{searched, place-most, place-below}
 use Rattle.ff_state.proofs.lights.Change.{flag-byte, slot-changed, entry-changed, entry-made}
 use Rattle.ff_state.proofs.state.FfState.set_light_enabled_at.Statement.{statement}

@@ -1,8 +1,9 @@
 -- `FfState::vs_source_light_inputs` meets its contract: the raw masks while no overflow light is stored, else the compacted ones and 1. Assumes nothing.
 use mathlib.Core.Path.{_≡_, ap, _∙_}
 use borrow.Author.Tests.{eq-eqb, ne-eqb}
-use Rattle.ff_state.specs.Active.{lightActiveMask, fourBytes, vsSourceLightInputs}
-use Rattle.ff_state.specs.declared.active.LightMasks.{LightMasks}
+use Rattle.ff_state.specs.Active.{lightActiveMask, vsSourceLightInputs}
+use Rattle.light_table.specs.Active.{fourBytes}
+use Rattle.light_table.specs.declared.active.LightMasks.{LightMasks}
 use borrow.Author.Needs.{needs}
 use Rattle.ff_state.proofs.state.FfState.vs_source_light_inputs.Statement.{statement}
 use Rattle.ff_state.proofs.state.FfState.vs_source_light_inputs.Tie as tie

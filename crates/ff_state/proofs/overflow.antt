@@ -1,2 +1,0 @@
-pub mod LowerBound
-pub mod Insertion

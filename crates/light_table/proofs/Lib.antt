@@ -1,0 +1,6 @@
+pub mod Lists
+pub mod Words
+pub mod LowerBound
+pub mod Insertion
+pub mod Sorted
+pub mod Compaction

@@ -1,0 +1,82 @@
+-- `light_table::active::push_slots` meets its contract. The invariant: what the slots from i on would still push gives the whole. The measure is the slots left.
+-- Assumes nothing.
+use Prim.Native.Nat.{ℕ, _-_, _≤_, _<_}
+use native.Mathlib.Omega.{arith}
+use mathlib.Core.Path.{_≡_, refl, sym, ap, _∙_}
+use lib.ListN.{length, drop, drop-of-length-le}
+use Rattle.light_table.proofs.Compaction.{slots-again}
+use borrow.Author.Needs.{needs}
+use Rattle.light_table.specs.Active.{slotsFrom, activeSlots, noLights, pushAll}
+use Rattle.light_table.proofs.active.push_slots.Statement.{statement}
+use Rattle.light_table.proofs.active.push_slots.Tie as tie
+
+abbrev Inv-loop : tie.InvT-loop
+Inv-loop mask limit lights list₀ i₀ list i = (i ≤ 8) × (length lights ≡ 8) × (pushAll limit list (slotsFrom i mask (drop i lights)) ≡ pushAll limit noLights (activeSlots mask lights))
+
+abbrev μ-loop : tie.MeasureT-loop
+μ-loop mask limit lights list₀ i₀ list i = 8 - i
+
+default-light-requires : tie.Need-default-light-requires Inv-loop μ-loop
+default-light-requires c κs = search needs
+
+loop-holds : tie.Need-loop-holds Inv-loop μ-loop
+unfolding noLights
+loop-holds c = (omega arith, c .before .good .0 .1 .0 .1, rw (c .default-light .ensures))
+
+cast-has-bit : tie.Need-cast-has-bit Inv-loop μ-loop
+cast-has-bit c = omega arith
+
+has-bit-requires : tie.Need-has-bit-requires Inv-loop μ-loop
+has-bit-requires c κs = omega arith
+
+mul-push-if : tie.Need-mul-push-if Inv-loop μ-loop
+mul-push-if c = omega arith
+
+array-copy-out-push-if : tie.Need-array-copy-out-push-if Inv-loop μ-loop
+array-copy-out-push-if c = omega arith
+
+push-if-requires : tie.Need-push-if-requires Inv-loop μ-loop
+push-if-requires c κs = search needs
+
+add-i : tie.Need-add-i Inv-loop μ-loop
+add-i c = omega arith
+
+loop-less : tie.Need-loop-less Inv-loop μ-loop
+loop-less c = omega arith
+
+loop-again : tie.Need-loop-again Inv-loop μ-loop
+loop-again c =
+    let l = c .before .before .before .before .loop in
+    let a = c .before .before .before .before .before .before .args in
+    let len = l .inv .1 in (
+      omega arith,
+      len,
+      slots-again (a .limit) (a .mask) (l .i) (a .t1) _ (l .list) (c .push-if .result) (c .before .before .has-bit .result) (omega arith) (c .before .before .has-bit .ensures) (c .push-if .ensures)
+          ∙ l .inv .2,
+    )
+
+returns : tie.Need-returns Inv-loop μ-loop
+unfolding slotsFrom pushAll
+returns c =
+    let l = c .before .loop in
+    let len = l .inv .1 in
+    let end : l .i ≡ 8 = omega arith in
+    rw (end, drop-of-length-le (c .before .before .before .args .t1) {i = 8} (omega arith)) at (l .inv .2)
+
+pub push-slots-spec : {M : Type 1} → statement M
+push-slots-spec =
+    tie.close
+    (tie.spec
+    Inv-loop
+    μ-loop
+    default-light-requires
+    loop-holds
+    cast-has-bit
+    has-bit-requires
+    mul-push-if
+    array-copy-out-push-if
+    push-if-requires
+    add-i
+    loop-less
+    loop-again
+    returns)

@@ -1,0 +1,5 @@
+pub mod Bits
+pub mod Entry
+pub mod Kinds
+pub mod Overflow
+pub mod Active
