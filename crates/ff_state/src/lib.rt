@@ -1,21 +1,21 @@
 // The vertex state of Direct3D 9's fixed-function pipeline, by value: transforms, material, lights and
 // the dirty bits of the constant sections. A call takes the state and returns it; a refused call
 // returns it as it was.
-mod active;
 mod dirty;
 mod lights;
 mod material;
 mod sections;
-mod slots;
 mod state;
 mod transforms;
 
 pub use dirty::MarkAnswer;
 pub use dirty::Marked;
 pub use dirty::Taken;
+pub use dirty::with_dirty;
 pub use lights::LightAnswer;
 pub use lights::LightChanged;
 pub use lights::LightRead;
+pub use sections::LIGHTS;
 pub use sections::Section;
 pub use sections::section_bit;
 pub use state::FfState;
