@@ -52,7 +52,7 @@ returns-3 c =
     let i = c .before .before .before .before in
     let l = i .before .loop in
     let a = i .before .before .before .before .before .args in
-    no-word (now (a .s)) (a .at) (l .inv .0) (l .i) (getD (now (a .s)) (a .at + l .i) 0) (i .loop-test .taken) refl
+    no-word (now (a .s)) (a .at) (l .inv .0) (l .i) (getD (now (a .s)) (a .at + l .i) 0) (omega arith) refl
     (subst (IsDigit (getD (now (a .s)) (a .at + l .i) 0)) (c .enum-told .given .1) (c .before .before .hex-digit .ensures))
 
 -- the digit read, and that the word with it fits
@@ -96,7 +96,7 @@ loop-again c =
       l .inv .0,
       omega arith,
       turn c .0,
-      text-more (now (a .s)) (a .at) (l .inv .0) (l .i) (l .w) (c .before .d .given .0 .0) (i .loop-test .taken) (digit c .0) (l .inv .3) (digit c .1),
+      text-more (now (a .s)) (a .at) (l .inv .0) (l .i) (l .w) (c .before .d .given .0 .0) (omega arith) (digit c .0) (l .inv .3) (digit c .1),
     )
 
 returns-4 : tie.Need-returns-4 Inv-loop μ-loop

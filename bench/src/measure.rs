@@ -1,0 +1,47 @@
+//! Times two loops in turn, so that what else the machine does falls on both alike.
+
+use std::time::Instant;
+
+/// Samples of each loop, and the least time of one, in nanoseconds.
+const ROUNDS: usize = 101;
+const SAMPLE: u64 = 400_000;
+
+pub struct Times {
+    pub ours: f64,
+    pub theirs: f64,
+}
+
+/// The medians, in nanoseconds per call, of loops of `calls` calls each.
+pub fn alternating(calls: usize, mut ours: impl FnMut(), mut theirs: impl FnMut()) -> Times {
+    let our_turns = turns(&mut ours);
+    let their_turns = turns(&mut theirs);
+    let mut samples = [Vec::with_capacity(ROUNDS), Vec::with_capacity(ROUNDS)];
+    for _ in 0..ROUNDS {
+        samples[0].push(time(our_turns, &mut ours) / our_turns as f64);
+        samples[1].push(time(their_turns, &mut theirs) / their_turns as f64);
+    }
+    let [ours, theirs] = samples.map(|s| median(s) / calls as f64);
+    Times { ours, theirs }
+}
+
+/// How often a loop has to run for a sample.
+fn turns(run: &mut impl FnMut()) -> u32 {
+    let mut turns = 1;
+    while time(turns, run) < SAMPLE as f64 {
+        turns *= 2;
+    }
+    turns
+}
+
+fn time(turns: u32, run: &mut impl FnMut()) -> f64 {
+    let start = Instant::now();
+    for _ in 0..turns {
+        run();
+    }
+    start.elapsed().as_nanos() as f64
+}
+
+fn median(mut samples: Vec<f64>) -> f64 {
+    samples.sort_by(f64::total_cmp);
+    samples[samples.len() / 2]
+}
