@@ -8,4 +8,5 @@ pub mod Overflow
 pub mod Lights
 pub mod Active
 pub mod Inputs
+pub mod Cases
 pub mod Valid
