@@ -12,7 +12,7 @@ use Rattle.light_table.specs.declared.overflow.Found.{Found}
 use Rattle.ff_state.specs.declared.lights.LightAnswer.the-variants.{Accepted}
 use Rattle.ff_state.specs.declared.lights.LightChanged.{LightChanged}
 use Rattle.light_table.proofs.Words.{flag-is}
-use Rattle.ff_lights.proofs.lights.Found.{entry-there}
+use Rattle.ff_state.proofs.Found.{entry-there}
 
 -- the code's number of a bool
 pub flag-byte : (on : Bool) → flag on ≡ boolByte on

@@ -6,7 +6,7 @@ use borrow.Author.Tests.{lt-ltb, le-ltb}
 use Rattle.ff_state.specs.Lights.{hasRoom}
 use Rattle.light_table.specs.declared.overflow.Found.{Found}
 use Rattle.light_table.proofs.LowerBound.{used-most}
-use Rattle.ff_lights.proofs.lights.Found.{searched}
+use Rattle.ff_state.proofs.Found.{searched}
 use Rattle.ff_lights.proofs.lights.has_room.Statement.{statement}
 use Rattle.ff_lights.proofs.lights.has_room.Tie as tie
 

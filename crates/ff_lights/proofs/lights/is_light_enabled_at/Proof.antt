@@ -9,7 +9,7 @@ use borrow.Author.Tests.{lt-ltb, le-ltb}
 use Rattle.ff_state.specs.Lights.{isLightEnabledAt, found}
 use Rattle.light_table.specs.declared.entry.OverflowLight.{OverflowLight}
 use Rattle.light_table.proofs.LowerBound.{used-most}
-use Rattle.ff_lights.proofs.lights.Found.{searched, place-below, entry-there}
+use Rattle.ff_state.proofs.Found.{searched, place-below, entry-there}
 use Rattle.ff_lights.proofs.lights.is_light_enabled_at.Statement.{statement}
 use Rattle.ff_lights.proofs.lights.is_light_enabled_at.Tie as tie
 

@@ -7,7 +7,7 @@ use borrow.Author.Tests.{lt-ltb, le-ltb}
 use Rattle.light_table.specs.Entry.{entry}
 use Rattle.ff_state.specs.Lights.{setLightAt, found}
 use Rattle.light_table.proofs.LowerBound.{used-most}
-use Rattle.ff_lights.proofs.lights.Found.{searched, place-most, place-below}
+use Rattle.ff_state.proofs.Found.{searched, place-most, place-below}
 use Rattle.ff_lights.proofs.lights.Change.{slot-changed, entry-changed, entry-made}
 use Rattle.ff_lights.proofs.lights.set_light_at.Statement.{statement}
 use Rattle.ff_lights.proofs.lights.set_light_at.Tie as tie

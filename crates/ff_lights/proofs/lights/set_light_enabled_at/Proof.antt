@@ -10,7 +10,7 @@ use Rattle.d3d9_types.specs.declared.light.D3DLIGHT9.{D3DLIGHT9}
 use Rattle.light_table.specs.Entry.{entry}
 use Rattle.ff_state.specs.Lights.{setLightEnabledAt, insertEntry, found}
 use Rattle.light_table.proofs.LowerBound.{used-most}
-use Rattle.ff_lights.proofs.lights.Found.{searched, place-most, place-below}
+use Rattle.ff_state.proofs.Found.{searched, place-most, place-below}
 use Rattle.ff_lights.proofs.lights.Change.{flag-byte, slot-changed, entry-changed, entry-made}
 use Rattle.ff_lights.proofs.lights.set_light_enabled_at.Statement.{statement}
 use Rattle.ff_lights.proofs.lights.set_light_enabled_at.Tie as tie

@@ -8,15 +8,15 @@ use borrow.Author.Tests.{lt-ltb, le-ltb, ltb-true, ltb-false}
 use Rattle.d3d9_types.specs.Light.{defaultLight}
 use Rattle.d3d9_types.specs.declared.light.D3DLIGHT9.{D3DLIGHT9}
 use Rattle.light_table.specs.Entry.{entry}
 use Rattle.ff_state.specs.Slots.{setSlot, enableSlot}
 use Rattle.light_table.specs.Overflow.{usedCount}
 use Rattle.ff_state.specs.Lights.{found, flag, hasRoom, inSlot, replaceEntry, insertEntry, changeEntry, setLightAt, setLightEnabledAt, lightNumber}
 use Rattle.ff_state.specs.declared.state.FfState.{FfState}
 use Rattle.light_table.specs.declared.entry.OverflowLight.{OverflowLight}
 use Rattle.ff_state.specs.declared.lights.LightAnswer.the-variants.{Full}
 use Rattle.ff_state.specs.declared.lights.LightChanged.{LightChanged}
 use Rattle.light_table.proofs.LowerBound.{used-most}
-use Rattle.ff_lights.proofs.lights.Found.{place-used-most}
+use Rattle.ff_state.proofs.Found.{place-used-most}
 
 neither : (a b : Bool) → (a || b) ≡ false → (a ≡ false) × (b ≡ false)
 neither true b h = absurd (true≢false h)
