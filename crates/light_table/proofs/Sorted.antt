@@ -15,7 +15,8 @@ use Rattle.light_table.specs.Overflow.{lowerBound, findEntry, ascending,
 use Rattle.light_table.specs.declared.entry.OverflowLight.{OverflowLight}
 use Rattle.light_table.specs.declared.overflow.Found.{Found}
 use Rattle.light_table.proofs.Lists.{take-replicate}
-use Rattle.light_table.proofs.LowerBound.{stored-index}
+pub use Rattle.light_table.proofs.LowerBound.{bound-most, stored-below, stored-index}
+pub use Rattle.light_table.proofs.Insertion.{length-inserted}
 
 -- ---- a search, entry by entry
 
@@ -28,18 +29,18 @@ module _ (x : OverflowLight) (es : List OverflowLight) (i : ℕ) where
   unfolding lowerBound
   bound-stopped h = rw (le-ltb (x .index) i h)
 
-  find-passed : x .index < i → findEntry (x ∷ es) i ≡ record { stored = findEntry es i .stored; at = suc (findEntry es i .at) }
+  pub find-passed : x .index < i → findEntry (x ∷ es) i ≡ record { stored = findEntry es i .stored; at = suc (findEntry es i .at) }
   unfolding findEntry
   find-passed h = rw (bound-passed h, leb·suc-suc)
 
-  find-stopped : i ≤ x .index → findEntry (x ∷ es) i ≡ record { stored = eqb (x .index) i; at = 0 }
+  pub find-stopped : i ≤ x .index → findEntry (x ∷ es) i ≡ record { stored = eqb (x .index) i; at = 0 }
   unfolding findEntry
   find-stopped h = rw (bound-stopped h, lt-ltb 0 (suc (length es)) (omega arith))
 
 -- ---- ascending indices
 
 module _ (from : ℕ) (x : OverflowLight) (es : List OverflowLight) where
-  both : (ascending from (x ∷ es) ≡ true) → (from ≤ x .index) × (ascending (suc (x .index)) es ≡ true)
+  pub both : (ascending from (x ∷ es) ≡ true) → (from ≤ x .index) × (ascending (suc (x .index)) es ≡ true)
   unfolding ascending
   both h =
       let p = and-eq-true-iff (leb from (x .index)) (ascending (suc (x .index)) es) .0 h in

@@ -1,13 +1,13 @@
 -- One bit of a word: what `withBit` is in closed form, that it stays in its width, and which bits it and an or have. Each law is once over the bit.
 -- Assumes nothing.
-use Prim.Native.Nat.{ℕ, zero, suc, _+_, _*_, _/_, _%_, _^_, _<_, _≤_, max}
-use native.Mathlib.Nat.{one-mul, pow-suc, pow-zero, mul-one, add-zero, mod-one, div-one, mul-assoc, add-mul, div-div-eq-div-mul, lt-of-lt-of-le, mul-comm, pow-succ', le-of-suc-le-suc, div-lt-iff-lt-mul, zero-lt-suc, mod-lt, max-le}
+use Prim.Native.Nat.{ℕ, zero, suc, _+_, _*_, _/_, _%_, _^_, _<_, _≤_, max, min}
+use native.Mathlib.Nat.{one-mul, pow-suc, pow-zero, mul-one, add-zero, mod-one, div-one, mul-assoc, add-mul, div-div-eq-div-mul, lt-of-lt-of-le, mul-comm, pow-succ', le-of-suc-le-suc, div-lt-iff-lt-mul, zero-lt-suc, mod-lt, max-le, min-le-left, zero-div}
 use native.Mathlib.Omega.{arith}
 use mathlib.Core.Path.{_≡_, refl, sym, ap, ap₂, subst, _∙_}
-use mathlib.Core.Bool.{Bool, true, false, cond, _||_}
+use mathlib.Core.Bool.{Bool, true, false, cond, _&&_, _||_}
 use lib.Dec.{lit<, eqb, eqb·zero-suc, eqb·suc-zero, eqb·suc-suc}
 use lib.Arith.{mod-mul}
-use lib.Bits.{bitOr, or-step}
+use lib.Bits.{bitOr, bitAnd, or-step, and-step}
 use lib.Pow.{pow-pos, shl-exact}
 use mir.Val.{boolByte}
 use Rattle.light_table.specs.Bits.{hasBit, withBit}
@@ -113,3 +113,33 @@ has-or a b (suc i) =
     ∙ ap (λ (n : ℕ). hasBit n i) (ap (λ (n : ℕ). n / 2) (or-step a b) ∙ d)
     ∙ has-or (a / 2) (b / 2) i
     ∙ ap₂ (λ (t u : Bool). t || u) (sym (has-bit-suc a i)) (sym (has-bit-suc b i))
+
+-- an and has the bits of both words
+and-digit : (x y : ℕ) → x < 2 → y < 2 → eqb (min x y) 1 ≡ (eqb x 1 && eqb y 1)
+and-digit zero zero p q = refl
+and-digit zero (suc zero) p q = refl
+and-digit (suc zero) zero p q = refl
+and-digit (suc zero) (suc zero) p q = refl
+and-digit zero (suc (suc y)) p q = absurd (omega arith)
+and-digit (suc zero) (suc (suc y)) p q = absurd (omega arith)
+and-digit (suc (suc x)) zero p q = absurd (omega arith)
+and-digit (suc (suc x)) (suc zero) p q = absurd (omega arith)
+and-digit (suc (suc x)) (suc (suc y)) p q = absurd (omega arith)
+
+pub has-and : (a b i : ℕ) → hasBit (bitAnd a b) i ≡ (hasBit a i && hasBit b i)
+has-and a b zero =
+    let d : (bitAnd (a / 2) (b / 2) * 2 + min (a % 2) (b % 2)) % 2 ≡ min (a % 2) (b % 2) = omega (arith, min-le-left (a % 2) (b % 2)) in
+    has-bit-zero (bitAnd a b)
+    ∙ ap (λ (n : ℕ). eqb n 1) (ap (λ (n : ℕ). n % 2) (and-step a b) ∙ d)
+    ∙ and-digit (a % 2) (b % 2) (omega arith) (omega arith)
+    ∙ ap₂ (λ (t u : Bool). t && u) (sym (has-bit-zero a)) (sym (has-bit-zero b))
+has-and a b (suc i) =
+    let d : (bitAnd (a / 2) (b / 2) * 2 + min (a % 2) (b % 2)) / 2 ≡ bitAnd (a / 2) (b / 2) = omega (arith, min-le-left (a % 2) (b % 2)) in
+    has-bit-suc (bitAnd a b) i
+    ∙ ap (λ (n : ℕ). hasBit n i) (ap (λ (n : ℕ). n / 2) (and-step a b) ∙ d)
+    ∙ has-and (a / 2) (b / 2) i
+    ∙ ap₂ (λ (t u : Bool). t && u) (sym (has-bit-suc a i)) (sym (has-bit-suc b i))
+
+pub has-none : (i : ℕ) → hasBit 0 i ≡ false
+unfolding hasBit
+has-none i = rw (zero-div (2 ^ i))

@@ -1,0 +1,83 @@
+-- The dirty bits: the abstract state has none, so that marking and taking leave it as it was. Assumes nothing.
+use Prim.Native.Nat.{ℕ, _≤_}
+use native.Mathlib.Omega.{arith}
+use mathlib.Core.Path.{_≡_}
+use mathlib.Core.Bool.{true, false, cond}
+use lib.Dec.{leb}
+use lib.Bits.{bitOr, or-lt}
+use borrow.Author.Tests.{leb-true}
+use Rattle.lemmas.proofs.Branch.{branch}
+use Rattle.d3d9_model.specs.State.{AbstractState}
+use Rattle.ff_state.specs.State.{withFfVsDirty}
+use Rattle.ff_state.specs.Sections.{allBits}
+use Rattle.ff_state.specs.Dirty.{dirtied, markFfVsDirty, markNumber, takeFfVsDirty}
+use Rattle.ff_state.specs.Overflow.{used}
+use Rattle.ff_state.specs.Valid.{Valid}
+use Rattle.ff_state.specs.declared.state.FfState.{FfState}
+use Rattle.ff_state.specs.declared.dirty.Marked.{Marked}
+use Rattle.agreement.specs.Agrees.{Agrees, stateLights}
+use Rattle.agreement.proofs.Frames.{slots-kept, overflow-kept}
+
+dirty-kept : {s : FfState} (d : ℕ) → d ≤ allBits → Valid s → Valid (withFfVsDirty s d)
+dirty-kept d h v =
+    record {
+      palette-length = v .palette-length;
+      texture-length = v .texture-length;
+      lights-length = v .lights-length;
+      overflow-length = v .overflow-length;
+      high-water = v .high-water;
+      dirty = h;
+      slots = slots-kept (v .slots);
+      overflow = overflow-kept (v .overflow);
+      floats =
+          record {
+            view = v .floats .view;
+            projection = v .floats .projection;
+            palette = v .floats .palette;
+            texture = v .floats .texture;
+            material = v .floats .material;
+            lights = v .floats .lights;
+            overflow = v .floats .overflow;
+          };
+    }
+
+pub dirtied-valid : {s : FfState} (bits : ℕ) → bits ≤ allBits → Valid s → Valid (dirtied s bits)
+unfolding dirtied
+dirtied-valid {s} bits h v = dirty-kept (bitOr (s .«ff_vs_dirty») bits) (omega (arith, or-lt 6 (s .«ff_vs_dirty») bits (omega (arith, v .dirty)) (omega arith))) v
+
+pub taken-valid : {s : FfState} → Valid s → Valid (takeFfVsDirty s .state)
+unfolding takeFfVsDirty
+taken-valid v = dirty-kept 0 (omega arith) v
+
+pub marked-valid : {s : FfState} (bits : ℕ) → Valid s → Valid (markFfVsDirty s bits .state)
+unfolding markFfVsDirty
+marked-valid bits v = branch (λ (r : Marked). Valid (r .state)) (leb bits allBits) _ _ (λ (t : leb bits allBits ≡ true). dirtied-valid bits (leb-true bits allBits t) v) (λ t. v)
+
+bits-agree : {s : FfState} {a : AbstractState} (d : ℕ) → Agrees s a → Agrees (withFfVsDirty s d) a
+unfolding stateLights used
+bits-agree d g =
+    record {
+      view = g .view;
+      projection = g .projection;
+      texture = g .texture;
+      palette = g .palette;
+      material = g .material;
+      lights = g .lights;
+    }
+
+pub dirtied-agrees : {s : FfState} {a : AbstractState} (bits : ℕ) → Agrees s a → Agrees (dirtied s bits) a
+unfolding dirtied
+dirtied-agrees {s} bits g = bits-agree (bitOr (s .«ff_vs_dirty») bits) g
+
+pub taken-agrees : {s : FfState} {a : AbstractState} → Agrees s a → Agrees (takeFfVsDirty s .state) a
+unfolding takeFfVsDirty
+taken-agrees g = bits-agree 0 g
+
+pub marked-agrees : {s : FfState} {a : AbstractState} (bits : ℕ) → Agrees s a → Agrees (markFfVsDirty s bits .state) a
+unfolding markFfVsDirty
+marked-agrees {a = a} bits g = branch (λ (r : Marked). Agrees (r .state) a) (leb bits allBits) _ _ (λ t. dirtied-agrees bits g) (λ t. g)
+
+pub mark-number : (s : FfState) (bits : ℕ) → markNumber (markFfVsDirty s bits .answer) ≡ cond (leb bits 63) 0 7
+unfolding markFfVsDirty markNumber
+mark-number s bits =
+    branch (λ (r : Marked). markNumber (r .answer) ≡ cond (leb bits 63) 0 7) (leb bits allBits) _ _ (λ (t : leb bits 63 ≡ true). rw t) (λ (t : leb bits 63 ≡ false). rw t)

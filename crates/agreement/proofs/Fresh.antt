@@ -1,0 +1,110 @@
+-- The fresh state is valid, and agrees with the fresh abstract state. Assumes nothing.
+use native.Mathlib.Nat.{not-suc-le-zero}
+use native.Mathlib.Omega.{arith}
+use mathlib.Core.Path.{_≡_, refl, sym, subst}
+use lib.ListN.{length-replicate, getD-replicate}
+use Rattle.d3d9_types.specs.Numbers.{zero-fits}
+use Rattle.d3d9_types.specs.Color.{black-fits}
+use Rattle.d3d9_types.specs.Light.{defaultLight, lightFits, defaultLight-fits}
+use Rattle.d3d9_types.specs.Matrix.{identity, identity-fits}
+use Rattle.d3d9_types.specs.Material.{defaultMaterial-fits}
+use Rattle.d3d9_model.specs.State.{freshAbstract}
+use Rattle.ff_state.specs.State.{freshState, noMatrix}
+use Rattle.light_table.specs.Entry.{zeroLight, zeroEntry}
+use Rattle.ff_state.specs.Overflow.{used}
+use Rattle.light_table.specs.Overflow.{usedCount, ascending}
+use Rattle.ff_state.specs.Valid.{Valid, SlotsValid, OverflowValid, FloatsValid}
+use Rattle.light_table.specs.declared.entry.OverflowLight.{OverflowLight}
+use Rattle.light_table.proofs.Words.{has-none}
+use Rattle.agreement.specs.Agrees.{Agrees, definedFrom, stateLights}
+
+zero-light-fits : lightFits zeroLight
+unfolding zeroLight
+zero-light-fits =
+    record {
+      «type_» = omega arith;
+      diffuse = black-fits;
+      specular = black-fits;
+      ambient = black-fits;
+      position = record { x = zero-fits; y = zero-fits; z = zero-fits };
+      direction = record { x = zero-fits; y = zero-fits; z = zero-fits };
+      range = zero-fits;
+      falloff = zero-fits;
+      attenuation0 = zero-fits;
+      attenuation1 = zero-fits;
+      attenuation2 = zero-fits;
+      theta = zero-fits;
+      phi = zero-fits;
+    }
+
+-- every bit of a mask that is 0 is false
+fresh-slots : SlotsValid freshState
+unfolding freshState
+fresh-slots =
+    record {
+      enabled-width = omega arith;
+      set-width = omega arith;
+      defined-width = omega arith;
+      directional-width = omega arith;
+      spot-width = omega arith;
+      enabled-defined = λ i h e. e;
+      undefined-default = λ i h e. getD-replicate 8 i defaultLight defaultLight h;
+      set-mask = λ i h. rw (has-none i);
+      directional-mask = λ i h. rw (has-none i);
+      spot-mask = λ i h. rw (has-none i);
+    }
+
+fresh-overflow : OverflowValid freshState
+unfolding freshState used usedCount ascending
+fresh-overflow =
+    record {
+      count = omega arith;
+      sorted = refl;
+      flags = λ k h. absurd (not-suc-le-zero h);
+      indices = λ k h. absurd (not-suc-le-zero h);
+      unused = refl;
+    }
+
+fresh-floats : FloatsValid freshState
+unfolding freshState zeroEntry
+fresh-floats =
+    record {
+      view = identity-fits;
+      projection = identity-fits;
+      palette = λ i h. rw (getD-replicate 256 i identity noMatrix h) identity-fits;
+      texture = λ i h. rw (getD-replicate 8 i identity noMatrix h) identity-fits;
+      material = defaultMaterial-fits;
+      lights = λ i h. rw (getD-replicate 8 i defaultLight defaultLight h) defaultLight-fits;
+      overflow = λ k h. subst (λ (e : OverflowLight). lightFits (e .light)) (sym (getD-replicate 56 k zeroEntry zeroEntry h)) zero-light-fits;
+    }
+
+pub fresh-valid : Valid freshState
+unfolding freshState
+fresh-valid =
+    record {
+      palette-length = length-replicate 256 identity;
+      texture-length = length-replicate 8 identity;
+      lights-length = length-replicate 8 defaultLight;
+      overflow-length = length-replicate 56 zeroEntry;
+      high-water = omega arith;
+      dirty = omega arith;
+      slots = fresh-slots;
+      overflow = fresh-overflow;
+      floats = fresh-floats;
+    }
+
+no-lights : stateLights freshState ≡ freshAbstract .lights
+unfolding stateLights freshState freshAbstract definedFrom used usedCount
+no-lights = simp has-none
+
+pub fresh-agrees : Agrees freshState freshAbstract
+unfolding freshState freshAbstract
+fresh-agrees =
+    record {
+      view = refl;
+      projection = refl;
+      texture = λ i h. getD-replicate 8 i identity noMatrix h;
+      palette = λ i h. getD-replicate 256 i identity noMatrix h;
+      material = refl;
+      lights = no-lights;
+    }

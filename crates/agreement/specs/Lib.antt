@@ -1,0 +1,3 @@
+pub mod Agrees
+pub mod Operate
+pub mod LightReads

@@ -1,0 +1,96 @@
+-- Worked examples, computed, that hold the definitions to document 01. Assumes nothing.
+use Prim.Native.Nat.{ℕ, zero, suc}
+use mathlib.Core.Path.{_≡_, refl}
+use mathlib.Core.Bool.{true, false}
+use mathlib.Core.List.{List, [], _∷_, map}
+use Rattle.d3d9_types.specs.Light.{defaultLight}
+use Rattle.d3d9_types.specs.Matrix.{identity}
+use Rattle.d3d9_types.specs.declared.matrix.D3DMATRIX.{D3DMATRIX}
+use Rattle.d3d9_types.specs.declared.light.D3DLIGHT9.{D3DLIGHT9}
+use Rattle.matrix.specs.Product.{matMul}
+use Rattle.d3d9_model.specs.State.{AbstractState, AbstractLight, freshAbstract}
+use Rattle.d3d9_model.specs.Lights.{lightAt, lookup, isThere, changedAt, lightSet, lightEnabled, countBeyond, lights?, activeOf}
+use Rattle.d3d9_model.specs.Operations.{Operation, setTransform, multiplyTransform, setLight, enableLight, mark, known, full, abstractRefusal, abstractChange, abstractStep}
+
+-- operations one after another, from the fresh state
+abbrev after : List Operation → AbstractState → AbstractState
+after [] a = a
+after (o ∷ os) a = after os (abstractStep a o)
+
+abbrev lightsAfter : List Operation → List AbstractLight
+lightsAfter os = after os freshAbstract .lights
+
+fresh : (n : ℕ) → freshAbstract .matrix n ≡ identity
+unfolding freshAbstract
+fresh n = refl
+
+-- P8, and the numbers beside each range
+numbers : (a : AbstractState) (m : D3DMATRIX)
+    → map (λ n. abstractRefusal a (setTransform n m)) (1 ∷ 2 ∷ 3 ∷ 4 ∷ 15 ∷ 16 ∷ 23 ∷ 24 ∷ 255 ∷ 256 ∷ 511 ∷ 512 ∷ [])
+    ≡ 1 ∷ 0 ∷ 0 ∷ 1 ∷ 1 ∷ 0 ∷ 0 ∷ 1 ∷ 1 ∷ 0 ∷ 0 ∷ 1 ∷ []
+unfolding abstractRefusal known
+numbers a m = refl
+
+marks : (a : AbstractState) → map (λ n. abstractRefusal a (mark n)) (0 ∷ 63 ∷ 64 ∷ []) ≡ 0 ∷ 0 ∷ 7 ∷ []
+unfolding abstractRefusal
+marks a = refl
+
+-- slot × argument, not the other order; another number is left alone
+multiplied : (a : AbstractState) (m : D3DMATRIX) → abstractStep a (multiplyTransform 2 m) .matrix 2 ≡ matMul (a .matrix 2) m
+unfolding abstractStep abstractRefusal abstractChange known
+multiplied a m = refl
+
+unmoved : (a : AbstractState) (m : D3DMATRIX) → abstractStep a (setTransform 2 m) .matrix 3 ≡ a .matrix 3
+unfolding abstractStep abstractRefusal abstractChange known
+unmoved a m = refl
+
+-- P9: with 56 lights from 8 on, one more from 8 on is refused; a stored one and one below 8 are not
+abbrev enables : ℕ → ℕ → List Operation
+enables i zero = []
+enables i (suc n) = enableLight i true ∷ enables (suc i) n
+
+room : map (λ i. abstractRefusal (after (enables 0 64) freshAbstract) (enableLight i true)) (0 ∷ 7 ∷ 8 ∷ 63 ∷ 64 ∷ 65 ∷ []) ≡ 0 ∷ 0 ∷ 0 ∷ 0 ∷ 3 ∷ 3 ∷ []
+unfolding freshAbstract abstractStep abstractRefusal abstractChange full lookup isThere countBeyond lightSet lightEnabled changedAt
+room = refl
+
+module _ (l k : D3DLIGHT9) where
+  set-then-enabled : lightsAfter (setLight 9 l ∷ enableLight 9 true ∷ []) ≡ lightAt 9 true l ∷ []
+  unfolding freshAbstract abstractStep abstractRefusal abstractChange full lookup isThere countBeyond lightSet lightEnabled changedAt
+  set-then-enabled = refl
+
+  ascending : lightsAfter (setLight 9 l ∷ setLight 8 k ∷ []) ≡ lightAt 8 false k ∷ lightAt 9 false l ∷ []
+  unfolding freshAbstract abstractStep abstractRefusal abstractChange full lookup isThere countBeyond lightSet lightEnabled changedAt
+  ascending = refl
+
+  setting-keeps-the-enable : lightsAfter (enableLight 3 true ∷ setLight 3 l ∷ setLight 3 k ∷ []) ≡ lightAt 3 true k ∷ []
+  unfolding freshAbstract abstractStep abstractRefusal abstractChange full lookup isThere countBeyond lightSet lightEnabled changedAt
+  setting-keeps-the-enable = refl
+
+-- disabling makes the default light too
+made : lightsAfter (enableLight 70 false ∷ enableLight 2 true ∷ []) ≡ lightAt 2 true defaultLight ∷ lightAt 70 false defaultLight ∷ []
+unfolding freshAbstract abstractStep abstractRefusal abstractChange full lookup isThere countBeyond lightSet lightEnabled changedAt
+made = refl
+
+-- of three lights that are on, the one of an unknown type is not active; nor is one that is off
+abbrev typed : ℕ → D3DLIGHT9
+typed t =
+    record {
+      «type_» = t;
+      diffuse = defaultLight .diffuse;
+      specular = defaultLight .specular;
+      ambient = defaultLight .ambient;
+      position = defaultLight .position;
+      direction = defaultLight .direction;
+      range = defaultLight .range;
+      falloff = defaultLight .falloff;
+      attenuation0 = defaultLight .attenuation0;
+      attenuation1 = defaultLight .attenuation1;
+      attenuation2 = defaultLight .attenuation2;
+      theta = defaultLight .theta;
+      phi = defaultLight .phi;
+    }
+
+active : activeOf (lightAt 0 true (typed 3) ∷ lightAt 1 false (typed 1) ∷ lightAt 5 true (typed 4) ∷ lightAt 9 true (typed 1) ∷ lightAt 12 true (typed 0) ∷ [])
+    ≡ typed 3 ∷ typed 1 ∷ []
+unfolding activeOf lights?
+active = refl

@@ -1,0 +1,48 @@
+-- The calls that change the abstract state, and which of them are refused. Document 01, 'Calls that change the state' and 'The list and the count of demand 3'.
+use Prim.Native.Nat.{ℕ}
+use mathlib.Core.Bool.{Bool, cond, not, _&&_, _||_}
+use lib.Dec.{leb, eqb}
+use Rattle.d3d9_types.specs.declared.matrix.D3DMATRIX.{D3DMATRIX}
+use Rattle.d3d9_types.specs.declared.material.D3DMATERIAL9.{D3DMATERIAL9}
+use Rattle.d3d9_types.specs.declared.light.D3DLIGHT9.{D3DLIGHT9}
+use Rattle.matrix.specs.Product.{matMul}
+use Rattle.d3d9_model.specs.State.{AbstractState, withMatrix, withMaterial, withLights}
+use Rattle.d3d9_model.specs.Lights.{lookup, isThere, lightSet, lightEnabled, countBeyond}
+
+-- Microsoft, IDirect3DDevice9::SetTransform, MultiplyTransform, SetMaterial, SetLight, LightEnable; mark is document 01's own
+pub data Operation : Type 0 where
+  setTransform multiplyTransform : ℕ → D3DMATRIX → Operation
+  setMaterial : D3DMATERIAL9 → Operation
+  setLight : ℕ → D3DLIGHT9 → Operation
+  enableLight : ℕ → Bool → Operation
+  mark : ℕ → Operation
+
+-- "state 2 view, 3 projection, 16 to 23 texture, 256 to 511 palette"; Microsoft, D3DTRANSFORMSTATETYPE
+unfoldable pub known : ℕ → Bool
+known n = eqb n 2 || (eqb n 3 || ((leb 16 n && leb n 23) || (leb 256 n && leb n 511)))
+
+-- "the index is 8 or more, not stored, and 56 such are stored"
+unfoldable pub full : AbstractState → ℕ → Bool
+full a i = leb 8 i && (not (isThere (lookup i (a .lights))) && eqb (countBeyond (a .lights)) 56)
+
+-- document 01's number of the refusal, 0 where there is none: 1 for an unknown state number, 3 for a full table, 7 for a mark above 63
+unfoldable pub abstractRefusal : AbstractState → Operation → ℕ
+abstractRefusal a (setTransform n m) = cond (known n) 0 1
+abstractRefusal a (multiplyTransform n m) = cond (known n) 0 1
+abstractRefusal a (setMaterial m) = 0
+abstractRefusal a (setLight i l) = cond (full a i) 3 0
+abstractRefusal a (enableLight i on) = cond (full a i) 3 0
+abstractRefusal a (mark bits) = cond (leb bits 63) 0 7
+
+-- "Set replaces a slot; multiply replaces it by its product", which is slot × argument
+unfoldable pub abstractChange : AbstractState → Operation → AbstractState
+abstractChange a (setTransform n m) = withMatrix a n m
+abstractChange a (multiplyTransform n m) = withMatrix a n (matMul (a .matrix n) m)
+abstractChange a (setMaterial m) = withMaterial a m
+abstractChange a (setLight i l) = withLights a (lightSet i l (a .lights))
+abstractChange a (enableLight i on) = withLights a (lightEnabled i on (a .lights))
+abstractChange a (mark bits) = a
+
+-- "Mark .. and any call that this paper refuses leave the book alone."
+unfoldable pub abstractStep : AbstractState → Operation → AbstractState
+abstractStep a op = cond (eqb (abstractRefusal a op) 0) (abstractChange a op) a

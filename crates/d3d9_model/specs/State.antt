@@ -1,0 +1,36 @@
+-- The abstract state: document 01's "plain book" ('The list and the count of demand 3'). "It holds matrices by state number, material, and lights by index, each with an enable."
+use Prim.Native.Nat.{ℕ}
+use mathlib.Core.Bool.{Bool, cond}
+use mathlib.Core.List.{List, []}
+use lib.Dec.{eqb}
+use Rattle.d3d9_types.specs.Matrix.{identity}
+use Rattle.d3d9_types.specs.Material.{defaultMaterial}
+use Rattle.d3d9_types.specs.declared.matrix.D3DMATRIX.{D3DMATRIX}
+use Rattle.d3d9_types.specs.declared.material.D3DMATERIAL9.{D3DMATERIAL9}
+use Rattle.d3d9_types.specs.declared.light.D3DLIGHT9.{D3DLIGHT9}
+
+pub record AbstractLight : Type 0 where
+  pub index : ℕ
+  pub enabled : Bool
+  pub light : D3DLIGHT9
+
+pub record AbstractState : Type 0 where
+  -- by state number
+  pub matrix : ℕ → D3DMATRIX
+  pub material : D3DMATERIAL9
+  -- by ascending index, each index once
+  pub lights : List AbstractLight
+
+-- "It begins with 000's fresh matrices, the default material and no light."
+unfoldable pub freshAbstract : AbstractState
+freshAbstract = record { matrix = λ n. identity; material = defaultMaterial; lights = [] }
+
+-- one update for each field; of the matrices, one
+abbrev pub withMatrix : AbstractState → ℕ → D3DMATRIX → AbstractState
+withMatrix a n m = record { matrix = λ k. cond (eqb k n) m (a .matrix k); material = a .material; lights = a .lights }
+
+abbrev pub withMaterial : AbstractState → D3DMATERIAL9 → AbstractState
+withMaterial a m = record { matrix = a .matrix; material = m; lights = a .lights }
+
+abbrev pub withLights : AbstractState → List AbstractLight → AbstractState
+withLights a ls = record { matrix = a .matrix; material = a .material; lights = ls }
