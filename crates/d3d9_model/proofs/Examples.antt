@@ -6,11 +6,12 @@ use mathlib.Core.List.{List, [], _∷_, map}
 use Rattle.d3d9_types.specs.Light.{defaultLight}
 use Rattle.d3d9_types.specs.Matrix.{identity}
 use Rattle.d3d9_types.specs.declared.matrix.D3DMATRIX.{D3DMATRIX}
+use Rattle.d3d9_types.specs.declared.material.D3DMATERIAL9.{D3DMATERIAL9}
 use Rattle.d3d9_types.specs.declared.light.D3DLIGHT9.{D3DLIGHT9}
 use Rattle.matrix.specs.Product.{matMul}
-use Rattle.d3d9_model.specs.State.{AbstractState, AbstractLight, freshAbstract}
-use Rattle.d3d9_model.specs.Lights.{lightAt, lookup, isThere, changedAt, lightSet, lightEnabled, countBeyond, lights?, activeOf}
-use Rattle.d3d9_model.specs.Operations.{Operation, setTransform, multiplyTransform, setLight, enableLight, mark, known, full, abstractRefusal, abstractChange, abstractStep}
+use Rattle.d3d9_model.specs.State.{AbstractState, AbstractLight, freshAbstract, withLights}
+use Rattle.d3d9_model.specs.Lights.{lightAt, lookup, isThere, isOn, changedAt, lightSet, lightEnabled, countBeyond, lights?, activeOf, abstractLight, abstractActive}
+use Rattle.d3d9_model.specs.Operations.{Operation, setTransform, multiplyTransform, setMaterial, setLight, enableLight, mark, known, full, abstractRefusal, abstractChange, abstractStep}
 
 -- operations one after another, from the fresh state
 abbrev after : List Operation → AbstractState → AbstractState
@@ -25,11 +26,25 @@ unfolding freshAbstract
 fresh n = refl
 
 -- P8, and the numbers beside each range
+abbrev edges : List ℕ
+edges = 1 ∷ 2 ∷ 3 ∷ 4 ∷ 15 ∷ 16 ∷ 23 ∷ 24 ∷ 255 ∷ 256 ∷ 511 ∷ 512 ∷ []
+
+abbrev refusals : List ℕ
+refusals = 1 ∷ 0 ∷ 0 ∷ 1 ∷ 1 ∷ 0 ∷ 0 ∷ 1 ∷ 1 ∷ 0 ∷ 0 ∷ 1 ∷ []
+
 numbers : (a : AbstractState) (m : D3DMATRIX)
-    → map (λ n. abstractRefusal a (setTransform n m)) (1 ∷ 2 ∷ 3 ∷ 4 ∷ 15 ∷ 16 ∷ 23 ∷ 24 ∷ 255 ∷ 256 ∷ 511 ∷ 512 ∷ [])
-    ≡ 1 ∷ 0 ∷ 0 ∷ 1 ∷ 1 ∷ 0 ∷ 0 ∷ 1 ∷ 1 ∷ 0 ∷ 0 ∷ 1 ∷ []
+    → (map (λ n. abstractRefusal a (setTransform n m)) edges ≡ refusals) × (map (λ n. abstractRefusal a (multiplyTransform n m)) edges ≡ refusals)
 unfolding abstractRefusal known
-numbers a m = refl
+numbers a m = (refl, refl)
+
+-- a refused operation changes nothing
+unchanged : (a : AbstractState) (m : D3DMATRIX) → (abstractStep a (setTransform 15 m) ≡ a) × (abstractStep a (multiplyTransform 512 m) ≡ a)
+unfolding abstractStep abstractRefusal abstractChange known
+unchanged a m = (refl, refl)
+
+material-set : (a : AbstractState) (m : D3DMATERIAL9) → abstractStep a (setMaterial m) .material ≡ m
+unfolding abstractStep abstractRefusal abstractChange
+material-set a m = refl
 
 marks : (a : AbstractState) → map (λ n. abstractRefusal a (mark n)) (0 ∷ 63 ∷ 64 ∷ []) ≡ 0 ∷ 0 ∷ 7 ∷ []
 unfolding abstractRefusal
@@ -49,9 +64,18 @@ abbrev enables : ℕ → ℕ → List Operation
 enables i zero = []
 enables i (suc n) = enableLight i true ∷ enables (suc i) n
 
-room : map (λ i. abstractRefusal (after (enables 0 64) freshAbstract) (enableLight i true)) (0 ∷ 7 ∷ 8 ∷ 63 ∷ 64 ∷ 65 ∷ []) ≡ 0 ∷ 0 ∷ 0 ∷ 0 ∷ 3 ∷ 3 ∷ []
+abbrev crowded : ℕ → AbstractState
+crowded n = after (enableLight 7 true ∷ enables 8 n) freshAbstract
+
+abbrev indices : List ℕ
+indices = 0 ∷ 7 ∷ 8 ∷ 63 ∷ 64 ∷ []
+
+room : (l : D3DLIGHT9)
+    → (map (λ i. abstractRefusal (crowded 55) (enableLight i true)) indices ≡ 0 ∷ 0 ∷ 0 ∷ 0 ∷ 0 ∷ [])
+    × (map (λ i. abstractRefusal (crowded 56) (enableLight i true)) indices ≡ 0 ∷ 0 ∷ 0 ∷ 0 ∷ 3 ∷ [])
+    × (map (λ i. abstractRefusal (crowded 56) (setLight i l)) indices ≡ 0 ∷ 0 ∷ 0 ∷ 0 ∷ 3 ∷ [])
 unfolding freshAbstract abstractStep abstractRefusal abstractChange full lookup isThere countBeyond lightSet lightEnabled changedAt
-room = refl
+room l = (refl, refl, refl)
 
 module _ (l k : D3DLIGHT9) where
   set-then-enabled : lightsAfter (setLight 9 l ∷ enableLight 9 true ∷ []) ≡ lightAt 9 true l ∷ []
@@ -71,7 +95,7 @@ made : lightsAfter (enableLight 70 false ∷ enableLight 2 true ∷ []) ≡ ligh
 unfolding freshAbstract abstractStep abstractRefusal abstractChange full lookup isThere countBeyond lightSet lightEnabled changedAt
 made = refl
 
--- of three lights that are on, the one of an unknown type is not active; nor is one that is off
+-- a light of a type
 abbrev typed : ℕ → D3DLIGHT9
 typed t =
     record {
@@ -90,7 +114,16 @@ typed t =
       phi = defaultLight .phi;
     }
 
-active : activeOf (lightAt 0 true (typed 3) ∷ lightAt 1 false (typed 1) ∷ lightAt 5 true (typed 4) ∷ lightAt 9 true (typed 1) ∷ lightAt 12 true (typed 0) ∷ [])
-    ≡ typed 3 ∷ typed 1 ∷ []
-unfolding activeOf lights?
+-- of these the second is off, and two have types that light nothing
+abbrev five : AbstractState
+five = withLights freshAbstract (lightAt 0 true (typed 3) ∷ lightAt 1 false (typed 1) ∷ lightAt 5 true (typed 4) ∷ lightAt 9 true (typed 1) ∷ lightAt 12 true (typed 0) ∷ [])
+
+active : abstractActive five ≡ typed 3 ∷ typed 1 ∷ []
+unfolding abstractActive activeOf lights?
 active = refl
+
+-- the reads of an index: whether there is a light, and whether it is on
+reads : (map (λ i. isThere (abstractLight five i)) (0 ∷ 1 ∷ 2 ∷ 9 ∷ []) ≡ true ∷ true ∷ false ∷ true ∷ [])
+    × (map (λ i. isOn (abstractLight five i)) (0 ∷ 1 ∷ 2 ∷ 9 ∷ []) ≡ true ∷ false ∷ false ∷ true ∷ [])
+unfolding abstractLight lookup isThere isOn
+reads = (refl, refl)
