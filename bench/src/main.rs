@@ -8,12 +8,22 @@ mod theirs;
 use std::hint::black_box;
 
 use inputs::Random;
-use measure::{Times, alternating};
+use measure::{Times, alone, alternating};
 use mtld3d_types::D3DMATRIX;
 
 /// Few enough that input and output stay in the first cache.
 const FLOATS: usize = 2048;
 const MATRICES: usize = 128;
+
+/// Turns of a loop on one state: enough that making it counts for little, and so few that a sample is
+/// seldom interrupted. A turn of ours copies the state, or the lists of lights, or neither.
+const COPIES: u32 = 256;
+const LISTS: u32 = 4096;
+const PLAIN: u32 = 65_536;
+
+/// A light in a slot, and one in the table.
+const SLOT: u32 = 3;
+const OVERFLOW: u32 = 9;
 
 /// The most that ours may take, in times of the Rust's.
 const PRODUCT: Option<f64> = Some(1.2);
@@ -46,6 +56,79 @@ fn main() {
     row("transpose", "apart", &times, None);
     let times = on_matrices(&cameras, ours::inverse, theirs::inverse);
     row("inverse", "apart", &times, None);
+
+    on_state();
+}
+
+/// The calls on the state, which ours take and return by value.
+fn on_state() {
+    let times = on_calls(
+        COPIES,
+        |n| ours::set_transform(n, black_box(1.0)),
+        |n| theirs::set_transform(n, black_box(1.0)),
+    );
+    row("set_transform", "palette", &times, None);
+    for (index, shape) in [(SLOT, "a slot"), (OVERFLOW, "an overflow light")] {
+        let times = on_calls(
+            COPIES,
+            |n| ours::set_light_at(n, black_box(index), black_box(1.0)),
+            |n| theirs::set_light_at(n, black_box(index), black_box(1.0)),
+        );
+        row("set_light_at", shape, &times, None);
+    }
+    for (index, shape) in [(SLOT, "a slot"), (OVERFLOW, "an overflow light")] {
+        let times = on_calls(
+            COPIES,
+            |n| ours::set_light_enabled_at(n, black_box(index)),
+            |n| theirs::set_light_enabled_at(n, black_box(index)),
+        );
+        row("set_light_enabled_at", shape, &times, None);
+    }
+    for (index, turns, shape) in [
+        (SLOT, PLAIN, "slots alone"),
+        (OVERFLOW, LISTS, "an overflow light"),
+    ] {
+        let times = on_calls(
+            turns,
+            |n| ours::vs_source_light_inputs(n, black_box(index)),
+            |n| theirs::vs_source_light_inputs(n, black_box(index)),
+        );
+        row("vs_source_light_inputs", shape, &times, None);
+    }
+    copies();
+}
+
+/// A yardstick for those: a plain copy of as many bytes.
+fn copies() {
+    let [mut a, mut b, mut c] = [[1; theirs::STATE]; 3];
+    let two = alone(|| theirs::copy(black_box(&a), black_box(&mut b)));
+    // Three states are more than the first cache holds.
+    let three = alone(|| {
+        theirs::copy(black_box(&a), black_box(&mut b));
+        theirs::copy(black_box(&b), black_box(&mut c));
+        theirs::copy(black_box(&c), black_box(&mut a));
+    }) / 3.0;
+    for (time, shape) in [(two, "again and again"), (three, "among three")] {
+        let bytes = theirs::STATE;
+        println!("| copy of {bytes} bytes | {shape} |  | {time:.2} |  |  |");
+    }
+}
+
+fn on_calls<T: PartialEq>(turns: u32, ours: impl Fn(u32) -> T, theirs: impl Fn(u32) -> T) -> Times {
+    assert!(ours(turns) == theirs(turns), "the answers differ");
+    let loops = alternating(
+        1,
+        || {
+            black_box(ours(black_box(turns)));
+        },
+        || {
+            black_box(theirs(black_box(PLAIN)));
+        },
+    );
+    Times {
+        ours: loops.ours / f64::from(turns),
+        theirs: loops.theirs / f64::from(PLAIN),
+    }
 }
 
 fn on_floats(xs: &[f32], ours: fn(&[f32], &mut [f32]), theirs: fn(&[f32], &mut [f32])) -> Times {

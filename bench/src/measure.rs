@@ -24,6 +24,16 @@ pub fn alternating(calls: usize, mut ours: impl FnMut(), mut theirs: impl FnMut(
     Times { ours, theirs }
 }
 
+/// The median, in nanoseconds, of one run.
+pub fn alone(mut run: impl FnMut()) -> f64 {
+    let turns = turns(&mut run);
+    median(
+        (0..ROUNDS)
+            .map(|_| time(turns, &mut run) / f64::from(turns))
+            .collect(),
+    )
+}
+
 /// How often a loop has to run for a sample.
 fn turns(run: &mut impl FnMut()) -> u32 {
     let mut turns = 1;

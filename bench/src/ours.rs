@@ -1,6 +1,11 @@
-//! Our loops, crates/bench_loops.
+//! Our loops, crates/bench_loops and crates/bench_state.
 
 use mtld3d_types::D3DMATRIX;
+
+pub use raw::bench_set_light_at as set_light_at;
+pub use raw::bench_set_light_enabled_at as set_light_enabled_at;
+pub use raw::bench_set_transform as set_transform;
+pub use raw::bench_vs_source_light_inputs as vs_source_light_inputs;
 
 mod raw {
     unsafe extern "C" {
@@ -11,6 +16,12 @@ mod raw {
         pub fn bench_mat_mul_chain(ms: *const f32, ms_len: usize, out: *mut f32, out_len: usize);
         pub fn bench_transpose(ms: *const f32, ms_len: usize, out: *mut f32, out_len: usize);
         pub fn bench_inverse(ms: *const f32, ms_len: usize, out: *mut f32, out_len: usize);
+
+        // Numbers alone, so that any call is sound.
+        pub safe fn bench_set_transform(n: u32, x: f32) -> f32;
+        pub safe fn bench_set_light_at(n: u32, index: u32, x: f32) -> f32;
+        pub safe fn bench_set_light_enabled_at(n: u32, index: u32) -> u32;
+        pub safe fn bench_vs_source_light_inputs(n: u32, index: u32) -> u32;
     }
 }
 
