@@ -19,13 +19,14 @@ use Rattle.ff_state.specs.Dirty.{dirtied}
 use Rattle.ff_state.specs.Slots.{setSlot, enableSlot}
 use Rattle.light_table.specs.Overflow.{usedCount, insertedAt}
 use Rattle.ff_state.specs.Overflow.{used}
-use Rattle.ff_state.specs.Lights.{lightsBit, found, entryAt, replaceEntry, insertEntry, changeEntry, hasRoom, inSlot, setLightAt, setLightEnabledAt, flag}
+use Rattle.ff_state.specs.Lights.{lightsBit, found, replaceEntry, insertEntry, changeEntry, hasRoom, inSlot, setLightAt, setLightEnabledAt, flag}
 use Rattle.ff_state.specs.Valid.{Valid}
 use Rattle.ff_state.specs.declared.state.FfState.{FfState}
 use Rattle.light_table.specs.declared.entry.OverflowLight.{OverflowLight}
 use Rattle.ff_state.specs.declared.lights.LightChanged.{LightChanged}
 use Rattle.ff_state.specs.declared.lights.LightAnswer.the-variants.{Full}
 use Rattle.light_table.proofs.Sorted.{putIn}
+use Rattle.light_table.proofs.Words.{flag-small-cond}
 use Rattle.agreement.specs.Agrees.{Agrees, definedFrom, slotDefined, slotEntry, overflowEntry, stateLights}
 use Rattle.agreement.proofs.Frames.{lights-agree}
 use Rattle.agreement.proofs.Dirty.{dirtied-valid, dirtied-agrees}
@@ -34,7 +35,7 @@ use Rattle.agreement.proofs.Defined.{defined-below}
 use Rattle.agreement.proofs.Entries.{entries-changed}
 use Rattle.agreement.proofs.Slots.{set-slot-valid, enable-slot-valid}
 use Rattle.agreement.proofs.SlotLights.{set-slot-agrees, enable-slot-agrees}
-use Rattle.agreement.proofs.Overflow.{EntryFits, place-most, entry-used, entry-index, entry-fits, replaced-used, replaced-valid, inserted-is, inserted-valid}
+use Rattle.agreement.proofs.Overflow.{EntryFits, withEntry, withNewEntry, foundEntry, place-most, entry-used, entry-index, entry-fits, replaced-used, replaced-valid, inserted-is, inserted-valid}
 use Rattle.agreement.proofs.Lights.{Outcome, in-slot, replaced, inserted, refused, outcome, full-is}
 
 -- ---- what a call is, by its outcome
@@ -46,26 +47,22 @@ module _ (s : FfState) (i : ℕ) (t : FfState) (change : OverflowLight → Overf
   call-slot : i < 8 → call ≡ inSlot t
   call-slot low = ap (λ (b : Bool). cond b (inSlot t) (changeEntry s (found s i) change made)) (lt-ltb i 8 low)
 
-  call-entry : 8 ≤ i → (b : Bool) → found s i .stored ≡ b → call ≡ cond b (replaceEntry s (found s i .at) (change (entryAt s (found s i .at)))) (insertEntry s (found s i .at) made)
+  call-entry : 8 ≤ i → (b : Bool) → found s i .stored ≡ b → call ≡ cond b (replaceEntry s (found s i .at) (change (foundEntry s i))) (insertEntry s (found s i .at) made)
   unfolding changeEntry
   call-entry high b h =
       ap (λ (b : Bool). cond b (inSlot t) (changeEntry s (found s i) change made)) (le-ltb i 8 high)
-      ∙ ap (λ (b : Bool). cond b (replaceEntry s (found s i .at) (change (entryAt s (found s i .at)))) (insertEntry s (found s i .at) made)) h
-
-  -- the state with one entry more
-  abbrev grown : FfState
-  grown = withOverflowCount (withOverflowLights s (insertedAt (found s i .at) made (s .«overflow_lights»))) (usedCount (s .«overflow_count») + 1)
+      ∙ ap (λ (b : Bool). cond b (replaceEntry s (found s i .at) (change (foundEntry s i))) (insertEntry s (found s i .at) made)) h
 
   insert-is : (b c : Bool) → ltb (usedCount (s .«overflow_count»)) 56 ≡ b → ltb (found s i .at) 56 ≡ c
-      → insertEntry s (found s i .at) made ≡ cond (b && c) (inSlot grown) (record { answer = Full; state = s })
+      → insertEntry s (found s i .at) made ≡ cond (b && c) (inSlot (withNewEntry s i made)) (record { answer = Full; state = s })
   unfolding insertEntry
-  insert-is b c p q = ap₂ (λ (x y : Bool). cond (x && y) (inSlot grown) (record { answer = Full; state = s })) p q
+  insert-is b c p q = ap₂ (λ (x y : Bool). cond (x && y) (inSlot (withNewEntry s i made)) (record { answer = Full; state = s })) p q
 
 -- what holds of the state after each outcome holds of the state after the call
 by-outcome : {s : FfState} → Valid s → (i : ℕ) (t : FfState) (change : OverflowLight → OverflowLight) (made : OverflowLight) (P : FfState → Type 0)
     → (i < 8 → hasRoom s i ≡ true → P (dirtied t lightsBit))
-    → (8 ≤ i → found s i .stored ≡ true → hasRoom s i ≡ true → P (dirtied (withOverflowLights s (set (s .«overflow_lights») (found s i .at) (change (entryAt s (found s i .at))))) lightsBit))
-    → (8 ≤ i → found s i .stored ≡ false → usedCount (s .«overflow_count») < 56 → hasRoom s i ≡ true → P (dirtied (grown s i t change made) lightsBit))
+    → (8 ≤ i → found s i .stored ≡ true → hasRoom s i ≡ true → P (dirtied (withEntry s i (change (foundEntry s i))) lightsBit))
+    → (8 ≤ i → found s i .stored ≡ false → usedCount (s .«overflow_count») < 56 → hasRoom s i ≡ true → P (dirtied (withNewEntry s i made) lightsBit))
     → (hasRoom s i ≡ false → P s)
     → P (call s i t change made .state)
 unfolding replaceEntry
@@ -76,9 +73,9 @@ by-outcome {s} v i t change made P slot stored absent none = go (outcome v i)
 
     go : Outcome s i → P (call s i t change made .state)
     go (in-slot low r) = there (inSlot t) (call-slot s i t change made low) (slot low r)
-    go (replaced high h r) = there (replaceEntry s (found s i .at) (change (entryAt s (found s i .at)))) (call-entry s i t change made high true h) (stored high h r)
+    go (replaced high h r) = there (replaceEntry s (found s i .at) (change (foundEntry s i))) (call-entry s i t change made high true h) (stored high h r)
     go (inserted high h m r) =
-        there (inSlot (grown s i t change made))
+        there (inSlot (withNewEntry s i made))
         (call-entry s i t change made high false h
         ∙ insert-is s i t change made true true (lt-ltb (usedCount (s .«overflow_count»)) 56 m) (lt-ltb (found s i .at) 56 (omega (arith, place-most v i))))
         (absent high h m r)
@@ -94,7 +91,7 @@ module _ {s : FfState} (v : Valid s) (i : ℕ) (t : FfState) (change : OverflowL
   call-valid =
       by-outcome v i t change made Valid
       (λ low r. dirtied-valid lightsBit (omega arith) (slot-valid low))
-      (λ high h r. let e = entryAt s (found s i .at) in dirtied-valid lightsBit (omega arith) (replaced-valid v i (change e) (own e (entry-index v i h)) (fits e (entry-fits v i h)) h))
+      (λ high h r. let e = foundEntry s i in dirtied-valid lightsBit (omega arith) (replaced-valid v i (change e) (own e (entry-index v i h)) (fits e (entry-fits v i h)) h))
       (λ high h m r. dirtied-valid lightsBit (omega arith) (inserted-valid v i made made-own made-fits h high m))
       (λ r. v)
 
@@ -110,20 +107,19 @@ module _ {s : FfState} (v : Valid s) (i : ℕ) (t : FfState) (change : OverflowL
         → stateLights (withOverflowCount (withOverflowLights s es) n) ≡ changedAt i change′ new (stateLights s)
     unfolding stateLights found
     overflow-changed high es n e =
-        let slots = definedFrom (slotDefined s) (slotEntry s) 0 8 in
         ap (λ (l : List OverflowLight). definedFrom (slotDefined s) (slotEntry s) 0 8 ++ map overflowEntry l) e
         ∙ ap (λ (l : List AbstractLight). definedFrom (slotDefined s) (slotEntry s) 0 8 ++ l) (sym (entries-changed i change made change′ alike (used s)))
-        ∙ sym (changed-below i change′ (overflowEntry made) slots (map overflowEntry (used s)) (defined-below (slotDefined s) (slotEntry s) (λ k. refl) i 0 8 high))
+        ∙ sym (changed-below i change′ (overflowEntry made) (definedFrom (slotDefined s) (slotEntry s) 0 8) (map overflowEntry (used s)) (defined-below (slotDefined s) (slotEntry s) (λ k. refl) i 0 8 high))
         ∙ ap (λ (x : AbstractLight). changedAt i change′ x (stateLights s)) made-alike
 
     module _ {a : AbstractState} (g : Agrees s a) (slot-agrees : i < 8 → Agrees t (withLights a (changedAt i change′ new (a .lights)))) where
       abbrev changed : AbstractState
       changed = withLights a (changedAt i change′ new (a .lights))
 
-      entry-agrees : 8 ≤ i → found s i .stored ≡ true → Agrees (withOverflowLights s (set (s .«overflow_lights») (found s i .at) (change (entryAt s (found s i .at))))) changed
+      entry-agrees : 8 ≤ i → found s i .stored ≡ true → Agrees (withEntry s i (change (foundEntry s i))) changed
       entry-agrees high h =
           let at = found s i .at in
-          let e = entryAt s (found s i .at) in
+          let e = foundEntry s i in
           lights-agree g
           (overflow-changed high (set (s .«overflow_lights») at (change e)) (s .«overflow_count»)
           (replaced-used v i (change e) (own e (entry-index v i h)) (fits e (entry-fits v i h)) h
@@ -131,7 +127,7 @@ module _ {s : FfState} (v : Valid s) (i : ℕ) (t : FfState) (change : OverflowL
           ∙ ap changedUsed (sym h))
           ∙ ap (changedAt i change′ new) (g .lights))
 
-      grown-agrees : 8 ≤ i → found s i .stored ≡ false → usedCount (s .«overflow_count») < 56 → Agrees (grown s i t change made) changed
+      grown-agrees : 8 ≤ i → found s i .stored ≡ false → usedCount (s .«overflow_count») < 56 → Agrees (withNewEntry s i made) changed
       grown-agrees high h m =
           lights-agree g
           (overflow-changed high (insertedAt (found s i .at) made (s .«overflow_lights»)) (usedCount (s .«overflow_count») + 1)
@@ -149,10 +145,9 @@ module _ {s : FfState} (v : Valid s) (i : ℕ) (t : FfState) (change : OverflowL
 
 -- ---- the two calls
 
-flag-small : (on : Bool) → flag on ≤ 1
+flag-fits : (on : Bool) → flag on ≤ 1
 unfolding flag
-flag-small true = omega arith
-flag-small false = omega arith
+flag-fits on = flag-small-cond on
 
 flag-read : (on : Bool) → not (eqb (flag on) 0) ≡ on
 unfolding flag
@@ -183,10 +178,10 @@ module _ {s : FfState} (v : Valid s) (i : ℕ) (small : i < 0x1_0000_0000) where
 
   module _ (on : Bool) where
     enable-fits : (e : OverflowLight) → EntryFits e → EntryFits (entry (e .index) (flag on) (e .light))
-    enable-fits e h = record { index = h .index; enabled = flag-small on; light = h .light }
+    enable-fits e h = record { index = h .index; enabled = flag-fits on; light = h .light }
 
     default-fits : EntryFits (entry i (flag on) defaultLight)
-    default-fits = record { index = small; enabled = flag-small on; light = defaultLight-fits }
+    default-fits = record { index = small; enabled = flag-fits on; light = defaultLight-fits }
 
     pub enable-light-valid : Valid (setLightEnabledAt s i on .state)
     unfolding setLightEnabledAt

@@ -27,6 +27,16 @@ pub record EntryFits (e : OverflowLight) : Type 0 where
   pub enabled : e .enabled ≤ 1
   pub light : lightFits (e .light)
 
+-- the state with an entry in the place of the one found for an index, and with one more entry there
+abbrev pub withEntry : FfState → ℕ → OverflowLight → FfState
+withEntry s i e = withOverflowLights s (set (s .«overflow_lights») (found s i .at) e)
+
+abbrev pub withNewEntry : FfState → ℕ → OverflowLight → FfState
+withNewEntry s i e = withOverflowCount (withOverflowLights s (insertedAt (found s i .at) e (s .«overflow_lights»))) (usedCount (s .«overflow_count») + 1)
+
+abbrev pub foundEntry : FfState → ℕ → OverflowLight
+foundEntry s i = entryAt s (found s i .at)
+
 module _ {s : FfState} (v : Valid s) where
   -- a valid state, with another table
   table-valid : {es : List OverflowLight} {n : ℕ} → length es ≡ 56 → ((k : ℕ) → k < 56 → lightFits (getD es k zeroEntry .light))
@@ -72,15 +82,15 @@ module _ {s : FfState} (v : Valid s) where
     unfolding found
     place-used = omega (arith, stored-below (used s) i stored, length-used)
 
-    pub entry-used : getD (used s) (found s i .at) zeroEntry ≡ entryAt s (found s i .at)
+    pub entry-used : getD (used s) (found s i .at) zeroEntry ≡ foundEntry s i
     unfolding used
     entry-used = getD-take (usedCount (s .«overflow_count»)) (s .«overflow_lights») (found s i .at) zeroEntry place-used
 
-    pub entry-index : entryAt s (found s i .at) .index ≡ i
+    pub entry-index : foundEntry s i .index ≡ i
     unfolding found
     entry-index = ap (λ (e : OverflowLight). e .index) (sym entry-used) ∙ stored-index (used s) i stored
 
-    pub entry-fits : EntryFits (entryAt s (found s i .at))
+    pub entry-fits : EntryFits (foundEntry s i)
     entry-fits =
         let h : found s i .at < s .«overflow_count» = omega (arith, place-used, count-used) in
         record {
@@ -93,15 +103,15 @@ module _ {s : FfState} (v : Valid s) where
     -- ---- the entry of a stored index
 
     module _ (stored : found s i .stored ≡ true) where
-      pub replaced-used : used (withOverflowLights s (set (s .«overflow_lights») (found s i .at) e)) ≡ set (used s) (found s i .at) e
+      pub replaced-used : used (withEntry s i e) ≡ set (used s) (found s i .at) e
       unfolding used
       replaced-used = take-set-lt (usedCount (s .«overflow_count»)) (s .«overflow_lights») (found s i .at) e (place-used i stored)
 
-      replaced-sorted : ascending 8 (used (withOverflowLights s (set (s .«overflow_lights») (found s i .at) e))) ≡ true
+      replaced-sorted : ascending 8 (used (withEntry s i e)) ≡ true
       unfolding found
       replaced-sorted = ap (ascending 8) replaced-used ∙ replaced-ascending 8 (used s) i e own stored ∙ v .overflow .sorted
 
-      pub replaced-valid : Valid (withOverflowLights s (set (s .«overflow_lights») (found s i .at) e))
+      pub replaced-valid : Valid (withEntry s i e)
       replaced-valid =
           let es = s .«overflow_lights» in
           let at = found s i .at in
@@ -120,20 +130,17 @@ module _ {s : FfState} (v : Valid s) where
     -- ---- one entry more
 
     module _ (absent : found s i .stored ≡ false) (beyond : 8 ≤ i) (room : usedCount (s .«overflow_count») < 56) where
-      abbrev grown : FfState
-      grown = withOverflowCount (withOverflowLights s (insertedAt (found s i .at) e (s .«overflow_lights»))) (usedCount (s .«overflow_count») + 1)
-
-      grown-count : usedCount (usedCount (s .«overflow_count») + 1) ≡ suc (usedCount (s .«overflow_count»))
+      new-count : usedCount (usedCount (s .«overflow_count») + 1) ≡ suc (usedCount (s .«overflow_count»))
       unfolding usedCount
-      grown-count = min-eq-left (omega arith) ∙ add-one (usedCount (s .«overflow_count»))
+      new-count = min-eq-left (omega arith) ∙ add-one (usedCount (s .«overflow_count»))
 
-      pub inserted-is : used grown ≡ putIn (found s i .at) e (used s)
+      pub inserted-is : used (withNewEntry s i e) ≡ putIn (found s i .at) e (used s)
       unfolding used
       inserted-is =
-          ap (λ (k : ℕ). take k (insertedAt (found s i .at) e (s .«overflow_lights»))) grown-count
+          ap (λ (k : ℕ). take k (insertedAt (found s i .at) e (s .«overflow_lights»))) new-count
           ∙ inserted-used (s .«overflow_lights») (usedCount (s .«overflow_count»)) (found s i .at) e (v .overflow-length) room (place-most i)
 
-      inserted-sorted : ascending 8 (used grown) ≡ true
+      inserted-sorted : ascending 8 (used (withNewEntry s i e)) ≡ true
       unfolding found findEntry
       inserted-sorted = ap (ascending 8) inserted-is ∙ inserted-ascending 8 (used s) i e own beyond (v .overflow .sorted) absent
 
@@ -153,7 +160,7 @@ module _ {s : FfState} (v : Valid s) where
           (ap (λ (k : ℕ). drop k (s .«overflow_lights»)) count-used ∙ v .overflow .unused ∙ ap (λ (k : ℕ). replicate (56 - k) zeroEntry) (sym count-used))
           ∙ ap (λ (k : ℕ). replicate k zeroEntry) c
 
-      pub inserted-valid : Valid grown
+      pub inserted-valid : Valid (withNewEntry s i e)
       inserted-valid =
           let es = s .«overflow_lights» in
           let at = found s i .at in
