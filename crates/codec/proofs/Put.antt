@@ -19,6 +19,14 @@ pub put-sets : (at : ℕ) (vs m : List ℕ) → at + length vs ≤ length m → 
 unfolding put
 put-sets at vs m h = sets-eq vs m at h ∙ simp (append-assoc, ← drop-drop)
 
+pub one-store : (at : ℕ) (m : List ℕ) (a : ℕ) → at + 1 ≤ length m → set m at a ≡ put at (a ∷ []) m
+one-store at m a h = put-sets at (a ∷ []) m h
+
+pub two-stores : (at : ℕ) (m : List ℕ) (a b : ℕ) → at + 2 ≤ length m → set (set m at a) (at + 1) b ≡ put at (a ∷ b ∷ []) m
+two-stores at m a b h =
+    let e₁ : at + 1 ≡ suc at = omega arith in
+    rw e₁ (put-sets at (a ∷ b ∷ []) m h)
+
 pub four-stores : (at : ℕ) (m : List ℕ) (a b c d : ℕ) → at + 4 ≤ length m
     → set (set (set (set m at a) (at + 1) b) (at + 2) c) (at + 3) d ≡ put at (a ∷ b ∷ c ∷ d ∷ []) m
 four-stores at m a b c d h =

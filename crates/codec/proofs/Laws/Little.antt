@@ -32,7 +32,20 @@ littleBytes-littleNumber (b ∷ bs) h =
     let high : (b + 256 * littleNumber bs) / 256 ≡ littleNumber bs = omega arith in
     rw (low, high, littleBytes-littleNumber bs (λ (i : ℕ). h (suc i)))
 
--- four bytes, written out
+-- one, two and four bytes, written out
+pub number-of-one : (t : List ℕ) → length t ≡ 1 → getD t 0 0 ≡ littleNumber t
+unfolding littleNumber
+number-of-one [] h = absurd (omega arith)
+number-of-one (a ∷ []) h = omega arith
+number-of-one (a ∷ b ∷ t) h = absurd (omega arith)
+
+pub number-of-two : (t : List ℕ) → length t ≡ 2 → getD t 0 0 + 0x100 * getD t 1 0 ≡ littleNumber t
+unfolding littleNumber
+number-of-two [] h = absurd (omega arith)
+number-of-two (a ∷ []) h = absurd (omega arith)
+number-of-two (a ∷ b ∷ []) h = omega arith
+number-of-two (a ∷ b ∷ c ∷ t) h = absurd (omega arith)
+
 pub number-of-four : (t : List ℕ) → length t ≡ 4 → getD t 0 0 + 0x100 * getD t 1 0 + 0x1_0000 * getD t 2 0 + 0x100_0000 * getD t 3 0 ≡ littleNumber t
 unfolding littleNumber
 number-of-four [] h = absurd (omega arith)
