@@ -1,0 +1,61 @@
+-- The table of a state's fields tiles: each place is the sum of the lengths before it, and the last field ends at 24,204.
+-- Assumes nothing.
+use Prim.Native.Nat.{ℕ}
+use native.Mathlib.Nat.{zero-add}
+use mathlib.Core.Path.{_≡_, refl, sym, _∙_}
+use mathlib.Core.List.{flatten}
+use lib.ListN.{length}
+use Rattle.codec.specs.Little.{littleBytes}
+use Rattle.codec.specs.Float.{floatBytes}
+use Rattle.codec.specs.Matrix.{matrixBytes, rowBytes}
+use Rattle.codec.specs.Color.{colorBytes}
+use Rattle.codec.specs.Vector.{vectorBytes}
+use Rattle.codec.specs.Light.{lightBytes}
+use Rattle.codec.proofs.Laws.Little.{length-littleBytes}
+use Rattle.codec.proofs.Laws.Matrix.{length-matrixBytes}
+use Rattle.codec.proofs.Laws.Material.{length-materialBytes}
+use Rattle.codec.proofs.Laws.Light.{length-lightBytes}
+use Rattle.light_table.specs.declared.entry.OverflowLight.{OverflowLight}
+use Rattle.ff_state.specs.declared.state.FfState.{FfState}
+use Rattle.ff_state.specs.Valid.{Valid}
+use Rattle.image.specs.Table.{Tiles}
+use Rattle.image.specs.Format.{entryBytes, imageTable, imageBytes, imageLength, Sized}
+use Rattle.image.proofs.Items.{length-listBytes}
+use Rattle.image.proofs.Table.{length-tableBytes}
+
+pub length-entryBytes : (e : OverflowLight) → length (entryBytes e) ≡ 112
+unfolding entryBytes lightBytes colorBytes rowBytes vectorBytes flatten floatBytes littleBytes
+length-entryBytes e = refl
+
+module _ (s : FfState) (z : Sized s) where
+  pub image-tiles : Tiles 0 (imageTable s) imageLength
+  unfolding imageTable
+  image-tiles =
+      rw (
+        length-matrixBytes (s .view),
+        length-matrixBytes (s .projection),
+        length-listBytes matrixBytes 64 length-matrixBytes (s .«world_palette»),
+        z .palette,
+        length-listBytes matrixBytes 64 length-matrixBytes (s .«texture_transforms»),
+        z .texture,
+        length-materialBytes (s .material),
+        length-listBytes lightBytes 104 length-lightBytes (s .lights),
+        z .lights,
+        length-littleBytes 1 (s .«light_enabled»),
+        length-littleBytes 1 (s .«light_defined_mask»),
+        length-littleBytes 1 (s .«ff_vs_dirty»),
+        length-littleBytes 1 0,
+        length-littleBytes 2 (s .«world_palette_high_water»),
+        length-littleBytes 2 (s .«overflow_count»),
+        length-listBytes entryBytes 112 length-entryBytes (s .«overflow_lights»),
+        z .overflow,
+      )
+      (refl, (refl, (refl, (refl, (refl, (refl, (refl, (refl, (refl, (refl, (refl, (refl, (refl, refl)))))))))))))
+
+  pub length-imageBytes : length (imageBytes s) ≡ 24_204
+  unfolding imageBytes
+  length-imageBytes = sym (zero-add (length (imageBytes s))) ∙ length-tableBytes 0 imageLength (imageTable s) image-tiles
+
+pub valid-sized : {s : FfState} → Valid s → Sized s
+valid-sized v =
+    record { palette = v .palette-length; texture = v .texture-length; lights = v .lights-length; overflow = v .overflow-length }

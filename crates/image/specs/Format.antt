@@ -1,0 +1,48 @@
+-- The state image, 24,204 bytes. Document 01, 'State image'; its fields in its order, at its places.
+use Prim.Native.Nat.{ℕ}
+use mathlib.Core.Path.{_≡_}
+use mathlib.Core.List.{List, [], _∷_, flatten}
+use lib.ListN.{length}
+use Rattle.codec.specs.Little.{littleBytes}
+use Rattle.codec.specs.Matrix.{matrixBytes}
+use Rattle.codec.specs.Material.{materialBytes}
+use Rattle.codec.specs.Light.{lightBytes}
+use Rattle.light_table.specs.declared.entry.OverflowLight.{OverflowLight}
+use Rattle.ff_state.specs.declared.state.FfState.{FfState}
+use Rattle.image.specs.Lists.{listBytes}
+use Rattle.image.specs.Table.{Field, field, tableBytes}
+
+abbrev pub imageLength : ℕ
+imageLength = 24_204
+
+-- an entry, 112 bytes: "index u32, enable u32, light"
+unfoldable pub entryBytes : OverflowLight → List ℕ
+entryBytes e = flatten (littleBytes 4 (e .index) ∷ littleBytes 4 (e .enabled) ∷ lightBytes (e .light) ∷ [])
+
+-- Each number as it stands, odd ones too. The masks of types are not written: they follow from the lights.
+unfoldable pub imageTable : FfState → List Field
+imageTable s =
+    field 0 (matrixBytes (s .view))
+    ∷ field 64 (matrixBytes (s .projection))
+    ∷ field 128 (listBytes matrixBytes (s .«world_palette»))
+    ∷ field 16_512 (listBytes matrixBytes (s .«texture_transforms»))
+    ∷ field 17_024 (materialBytes (s .material))
+    ∷ field 17_092 (listBytes lightBytes (s .lights))
+    ∷ field 17_924 (littleBytes 1 (s .«light_enabled»))
+    ∷ field 17_925 (littleBytes 1 (s .«light_defined_mask»))
+    ∷ field 17_926 (littleBytes 1 (s .«ff_vs_dirty»))
+    ∷ field 17_927 (littleBytes 1 0)
+    ∷ field 17_928 (littleBytes 2 (s .«world_palette_high_water»))
+    ∷ field 17_930 (littleBytes 2 (s .«overflow_count»))
+    ∷ field 17_932 (listBytes entryBytes (s .«overflow_lights»))
+    ∷ []
+
+unfoldable pub imageBytes : FfState → List ℕ
+imageBytes s = tableBytes (imageTable s)
+
+-- the lengths that the record's arrays have
+pub record Sized (s : FfState) : Type 0 where
+  pub palette : length (s .«world_palette») ≡ 256
+  pub texture : length (s .«texture_transforms») ≡ 8
+  pub lights : length (s .lights) ≡ 8
+  pub overflow : length (s .«overflow_lights») ≡ 56

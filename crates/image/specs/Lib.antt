@@ -1,0 +1,4 @@
+pub mod Lists
+pub mod Table
+pub mod Format
+pub mod Write
