@@ -1,2 +1,4 @@
 pub mod Items
 pub mod Entry
+pub mod Every
+pub mod Ascends

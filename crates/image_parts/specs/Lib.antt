@@ -1,2 +1,4 @@
 pub mod Lists
 pub mod Entry
+pub mod Every
+pub mod Tests
