@@ -47,9 +47,10 @@ pub fn put_u16(dst: &mut [u8], at: usize, n: u16)
     requires { ⌜ at + 2 ≤ length (now dst) ⌝ }
     ensures { λ _. ⌜ now (dst .exit) ≡ put at (littleBytes 2 n) (now (dst .entry)) ⌝ }
 {
-    let b1 = n / 256;
-    dst[at] = (n % 256) as u8;
-    dst[at + 1] = (b1 % 256) as u8;
+    let low = n % 256;
+    let high = n / 256 % 256;
+    dst[at] = low as u8;
+    dst[at + 1] = high as u8;
 }
 
 pub fn put_u32(dst: &mut [u8], at: usize, n: u32)
