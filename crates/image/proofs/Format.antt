@@ -1,31 +1,25 @@
 -- The table of a state's fields tiles: each place is the sum of the lengths before it, and the last field ends at 24,204.
 -- Assumes nothing.
-use Prim.Native.Nat.{ℕ}
 use native.Mathlib.Nat.{zero-add}
 use mathlib.Core.Path.{_≡_, refl, sym, _∙_}
-use mathlib.Core.List.{flatten}
+use mathlib.Core.List.{[]}
 use lib.ListN.{length}
 use Rattle.codec.specs.Little.{littleBytes}
-use Rattle.codec.specs.Float.{floatBytes}
-use Rattle.codec.specs.Matrix.{matrixBytes, rowBytes}
-use Rattle.codec.specs.Color.{colorBytes}
-use Rattle.codec.specs.Vector.{vectorBytes}
+use Rattle.codec.specs.Matrix.{matrixBytes}
 use Rattle.codec.specs.Light.{lightBytes}
 use Rattle.codec.proofs.Laws.Little.{length-littleBytes}
 use Rattle.codec.proofs.Laws.Matrix.{length-matrixBytes}
 use Rattle.codec.proofs.Laws.Material.{length-materialBytes}
 use Rattle.codec.proofs.Laws.Light.{length-lightBytes}
-use Rattle.light_table.specs.declared.entry.OverflowLight.{OverflowLight}
 use Rattle.ff_state.specs.declared.state.FfState.{FfState}
 use Rattle.ff_state.specs.Valid.{Valid}
+use Rattle.image_parts.specs.Entry.{entryBytes}
+use Rattle.image_parts.proofs.Entry.{length-entryBytes}
 use Rattle.image.specs.Table.{Tiles}
-use Rattle.image.specs.Format.{entryBytes, imageTable, imageBytes, imageLength, Sized}
+use Rattle.image.specs.Format.{imageTable, imageBytes, imageLength, Sized}
 use Rattle.image.proofs.Items.{length-listBytes}
+use Rattle.image.proofs.Read.{AllHold, tiles-hold}
 use Rattle.image.proofs.Table.{length-tableBytes}
-
-pub length-entryBytes : (e : OverflowLight) → length (entryBytes e) ≡ 112
-unfolding entryBytes lightBytes colorBytes rowBytes vectorBytes flatten floatBytes littleBytes
-length-entryBytes e = refl
 
 module _ (s : FfState) (z : Sized s) where
   pub image-tiles : Tiles 0 (imageTable s) imageLength
@@ -55,6 +49,11 @@ module _ (s : FfState) (z : Sized s) where
   pub length-imageBytes : length (imageBytes s) ≡ 24_204
   unfolding imageBytes
   length-imageBytes = sym (zero-add (length (imageBytes s))) ∙ length-tableBytes 0 imageLength (imageTable s) image-tiles
+
+  -- each field's bytes stand at its place
+  pub image-holds : AllHold (imageBytes s) (imageTable s)
+  unfolding imageBytes
+  image-holds = tiles-hold 0 imageLength (imageTable s) [] refl image-tiles
 
 pub valid-sized : {s : FfState} → Valid s → Sized s
 valid-sized v =

@@ -1,6 +1,6 @@
 -- Items of one width: the length of their bytes, and a turn of the loop that puts them one behind the other.
 -- Assumes nothing.
-use Prim.Native.Nat.{ℕ, suc, _+_, _*_, _≤_, _<_}
+use Prim.Native.Nat.{ℕ, _+_, _*_, _≤_, _<_}
 use native.Mathlib.Nat.{mul-suc, mul-le-mul-left}
 use native.Mathlib.Numerals.{add-one}
 use native.Mathlib.Omega.{arith}
@@ -10,7 +10,7 @@ use lib.ListN.{length, getD, take, length-append, take-append-drop}
 use lib.Seq.{length-take-le, take-suc, take-all}
 use Rattle.codec.specs.Put.{put}
 use Rattle.codec.proofs.Put.{put-append}
-use Rattle.image.specs.Lists.{listBytes}
+use Rattle.image_parts.specs.Lists.{listBytes}
 
 pub listBytes-append : {A : Type 0} (f : A → List ℕ) (xs ys : List A) → listBytes f (xs ++ ys) ≡ listBytes f xs ++ listBytes f ys
 unfolding listBytes

@@ -1,3 +1,4 @@
 pub mod Items
 pub mod Table
+pub mod Read
 pub mod Format

@@ -1,23 +1,19 @@
 -- The state image, 24,204 bytes. Document 01, 'State image'; its fields in its order, at its places.
 use Prim.Native.Nat.{ℕ}
 use mathlib.Core.Path.{_≡_}
-use mathlib.Core.List.{List, [], _∷_, flatten}
+use mathlib.Core.List.{List, [], _∷_}
 use lib.ListN.{length}
 use Rattle.codec.specs.Little.{littleBytes}
 use Rattle.codec.specs.Matrix.{matrixBytes}
 use Rattle.codec.specs.Material.{materialBytes}
 use Rattle.codec.specs.Light.{lightBytes}
-use Rattle.light_table.specs.declared.entry.OverflowLight.{OverflowLight}
 use Rattle.ff_state.specs.declared.state.FfState.{FfState}
-use Rattle.image.specs.Lists.{listBytes}
+use Rattle.image_parts.specs.Lists.{listBytes}
+use Rattle.image_parts.specs.Entry.{entryBytes}
 use Rattle.image.specs.Table.{Field, field, tableBytes}
 
 abbrev pub imageLength : ℕ
 imageLength = 24_204
-
--- an entry, 112 bytes: "index u32, enable u32, light"
-unfoldable pub entryBytes : OverflowLight → List ℕ
-entryBytes e = flatten (littleBytes 4 (e .index) ∷ littleBytes 4 (e .enabled) ∷ lightBytes (e .light) ∷ [])
 
 -- Each number as it stands, odd ones too. The masks of types are not written: they follow from the lights.
 unfoldable pub imageTable : FfState → List Field

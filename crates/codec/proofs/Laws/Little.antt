@@ -3,12 +3,12 @@
 use Prim.Native.Nat.{ℕ, zero, suc, _+_, _*_, _/_, _%_, _^_, _<_}
 use native.Mathlib.Nat.{one-le-pow, pow-suc, div-lt-iff-lt-mul}
 use native.Mathlib.Omega.{arith}
-use mathlib.Core.Path.{_≡_, refl, ap}
+use mathlib.Core.Path.{_≡_, refl, ap, _∙_}
 use mathlib.Core.List.{List, [], _∷_}
 use lib.ListN.{length, getD, take, drop}
-use lib.Seq.{getD-drop, drop-append-add}
+use lib.Seq.{getD-drop, drop-append-add, take-at}
 use Rattle.codec.specs.Little.{littleBytes, littleNumber, numberAt, Bytes}
-use Rattle.codec.proofs.Inside.{Skips}
+use Rattle.codec.proofs.Inside.{Skips, Starts}
 
 pub length-littleBytes : (k n : ℕ) → length (littleBytes k n) ≡ k
 unfolding littleBytes
@@ -57,6 +57,10 @@ number-of-four (a ∷ b ∷ c ∷ d ∷ e ∷ t) h = absurd (omega arith)
 
 pub numberAt-skips : (k : ℕ) → Skips (numberAt k)
 numberAt-skips k p q n = rw drop-append-add
+
+pub numberAt-starts : (k n : ℕ) → n < 256 ^ k → Starts (numberAt k) (littleBytes k n) n
+numberAt-starts k n h rest =
+    ap littleNumber (take-at (littleBytes k n) rest k (length-littleBytes k n)) ∙ littleNumber-littleBytes k n h
 
 -- k bytes make a number of k bytes
 front-lt : (k : ℕ) (bs : List ℕ) → Bytes bs → littleNumber (take k bs) < 256 ^ k

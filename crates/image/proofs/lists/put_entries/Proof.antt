@@ -2,8 +2,8 @@
 -- Assumes nothing.
 use Prim.Native.Nat.{_-_}
 use native.Mathlib.Omega.{arith}
-use Rattle.image.specs.Format.{entryBytes}
-use Rattle.image.proofs.Format.{length-entryBytes}
+use Rattle.image_parts.specs.Entry.{entryBytes}
+use Rattle.image_parts.proofs.Entry.{length-entryBytes}
 use Rattle.image.proofs.Items.{Stands, begins, goes-on, ends}
 use borrow.Author.Needs.{needs}
 use Rattle.image.proofs.lists.put_entries.Statement.{statement}

@@ -8,7 +8,7 @@ use Rattle.codec.specs.Little.{littleBytes}
 use Rattle.codec.specs.Light.{lightBytes}
 use Rattle.codec.proofs.Laws.Light.{length-lightBytes}
 use Rattle.codec.proofs.Put.{puts-are}
-use Rattle.image.specs.Format.{entryBytes}
+use Rattle.image_parts.specs.Entry.{entryBytes}
 use borrow.Author.Needs.{needs}
 use Rattle.image.proofs.lists.put_entry.Statement.{statement}
 use Rattle.image.proofs.lists.put_entry.Tie as tie
