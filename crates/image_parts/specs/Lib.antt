@@ -2,3 +2,4 @@ pub mod Lists
 pub mod Entry
 pub mod Every
 pub mod Tests
+pub mod Reasons

@@ -1,12 +1,14 @@
 // The parts of a state image: lists of items read from bytes, and the tests that an image must pass.
 // Document 01, 'State image'.
 mod lists;
+mod reasons;
 mod tests;
 
 pub use lists::entries_at;
 pub use lists::lights_at;
 pub use lists::palette_at;
 pub use lists::textures_at;
+pub use reasons::image_refused;
 pub use tests::bits_defined;
 pub use tests::default_light_at;
 pub use tests::entries_ascending;
