@@ -4,3 +4,4 @@ pub mod Every
 pub mod Ascends
 pub mod Either
 pub mod Count
+pub mod Mask

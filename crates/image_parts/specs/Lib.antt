@@ -3,3 +3,4 @@ pub mod Entry
 pub mod Every
 pub mod Tests
 pub mod Reasons
+pub mod Masks

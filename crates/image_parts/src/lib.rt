@@ -1,6 +1,7 @@
 // The parts of a state image: lists of items read from bytes, and the tests that an image must pass.
 // Document 01, 'State image'.
 mod lists;
+mod masks;
 mod reasons;
 mod tests;
 
@@ -8,6 +9,8 @@ pub use lists::entries_at;
 pub use lists::lights_at;
 pub use lists::palette_at;
 pub use lists::textures_at;
+pub use masks::set_mask;
+pub use masks::type_mask;
 pub use reasons::image_refused;
 pub use tests::bits_defined;
 pub use tests::default_light_at;
