@@ -18,7 +18,7 @@ use Rattle.image_parts.proofs.Entry.{length-entryBytes}
 use Rattle.image.specs.Table.{Tiles}
 use Rattle.image.specs.Format.{imageTable, imageBytes, imageLength, Sized}
 use Rattle.image.proofs.Items.{length-listBytes}
-use Rattle.image.proofs.Read.{AllHold, tiles-hold}
+use Rattle.image.proofs.Held.{AllHold, tiles-hold}
 use Rattle.image.proofs.Table.{length-tableBytes}
 
 module _ (s : FfState) (z : Sized s) where

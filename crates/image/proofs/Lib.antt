@@ -1,4 +1,4 @@
 pub mod Items
 pub mod Table
-pub mod Read
+pub mod Held
 pub mod Format

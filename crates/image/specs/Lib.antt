@@ -1,3 +1,4 @@
 pub mod Table
 pub mod Format
 pub mod Write
+pub mod Read

@@ -1,0 +1,71 @@
+// A state read from an image. Document 01, 'State image'.
+ghost use mathlib.Core.Path.{_≡_};
+ghost use Prim.Native.Nat.{_≤_};
+ghost use lib.ListN.{length};
+ghost use Rattle.image.specs.Read.{stateOf, readImage};
+use codec::material_at;
+use codec::matrix_at;
+use codec::u8_at;
+use codec::u16_at;
+use ff_state::FfState;
+use image_parts::entries_at;
+use image_parts::image_refused;
+use image_parts::lights_at;
+use image_parts::palette_at;
+use image_parts::set_mask;
+use image_parts::textures_at;
+use image_parts::type_mask;
+
+pub enum ReadAnswer {
+    Accepted,
+    // Some reason to refuse the bytes holds.
+    NotAnImage,
+}
+
+pub struct ImageRead {
+    pub answer: ReadAnswer,
+    pub state: FfState,
+}
+
+fn state_of(bytes: &[u8]) -> FfState
+    requires { ⌜ 24_204 ≤ length (now bytes) ⌝ }
+    ensures { λ r. ⌜ r ≡ stateOf (now (bytes .entry)) ⌝ }
+{
+    let lights = lights_at(bytes, 17_092);
+    let defined = u8_at(bytes, 17_925);
+    let set = set_mask(defined, lights);
+    let directional = type_mask(3, defined, lights);
+    let spot = type_mask(2, defined, lights);
+    FfState {
+        view: matrix_at(bytes, 0),
+        projection: matrix_at(bytes, 64),
+        world_palette: palette_at(bytes, 128),
+        world_palette_high_water: u16_at(bytes, 17_928),
+        texture_transforms: textures_at(bytes, 16_512),
+        material: material_at(bytes, 17_024),
+        lights: lights,
+        light_enabled: u8_at(bytes, 17_924),
+        light_set_mask: set,
+        light_defined_mask: defined,
+        light_directional_mask: directional,
+        light_spot_mask: spot,
+        overflow_lights: entries_at(bytes, 17_932),
+        overflow_count: u16_at(bytes, 17_930),
+        ff_vs_dirty: u8_at(bytes, 17_926),
+    }
+}
+
+pub fn read_image(s: FfState, bytes: &[u8]) -> ImageRead
+    ensures { λ r. ⌜ r ≡ readImage s (now (bytes .entry)) ⌝ }
+{
+    if image_refused(bytes) {
+        return ImageRead {
+            answer: ReadAnswer::NotAnImage,
+            state: s,
+        };
+    }
+    ImageRead {
+        answer: ReadAnswer::Accepted,
+        state: state_of(bytes),
+    }
+}
