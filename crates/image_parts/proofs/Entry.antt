@@ -2,18 +2,18 @@
 -- Assumes nothing.
 use Prim.Native.Nat.{ℕ, _<_, _^_}
 use native.Mathlib.Nat.{add-assoc}
-use mathlib.Core.Path.{_≡_, refl, sym, ap, _∙_}
-use mathlib.Core.List.{List, [], _++_, append-nil, flatten}
+use mathlib.Core.Path.{_≡_, refl}
+use mathlib.Core.List.{[], _++_, append-nil, flatten}
 use lib.ListN.{length}
 use Rattle.d3d9_types.specs.Light.{lightFits}
-use Rattle.codec.specs.Little.{littleBytes, littleNumber}
+use Rattle.codec.specs.Little.{littleBytes}
 use Rattle.codec.specs.Float.{floatBytes}
 use Rattle.codec.specs.Matrix.{rowBytes}
 use Rattle.codec.specs.Color.{colorBytes}
 use Rattle.codec.specs.Vector.{vectorBytes}
 use Rattle.codec.specs.Light.{lightBytes, lightAt}
 use Rattle.codec.proofs.Inside.{Skips, Starts, inside}
-use Rattle.codec.proofs.Laws.Little.{littleNumber-littleBytes, length-littleBytes, numberAt-skips}
+use Rattle.codec.proofs.Laws.Little.{littleNumber-littleBytes, numberAt-skips}
 use Rattle.codec.proofs.Laws.Light.{lightAt-skips, lightAt-starts}
 use Rattle.d3d9_types.specs.declared.light.D3DLIGHT9.{D3DLIGHT9}
 use Rattle.light_table.specs.Entry.{entry}

@@ -4,7 +4,7 @@ use Prim.Native.Nat.{ℕ, zero, suc, _+_, _≤_, _<_}
 use native.Mathlib.Numerals.{add-one}
 use native.Mathlib.Omega.{arith}
 use mathlib.Core.Path.{_≡_, refl, sym, ap, _∙_}
-use mathlib.Core.Bool.{Bool, true, false, _&&_, and-eq-true-iff, true≢false}
+use mathlib.Core.Bool.{Bool, true, false, and-eq-true-iff, true≢false}
 use borrow.Author.Count.{below-more}
 use Rattle.image_parts.specs.Every.{every}
 

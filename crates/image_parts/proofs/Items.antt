@@ -59,6 +59,11 @@ module _ {A : Type 0} (read : List ℕ → ℕ → A) (size : ℕ) where
       (listAt-starts skips write wide d xs (λ (i : ℕ) (h : i < length xs). back (suc i) (omega arith))) (write x) rest size (wide x) in
       rw (append-assoc, zero-add, back 0 (omega arith) (listBytes write xs ++ rest), behind)
 
+  -- and so they do inside a longer list
+  pub listAt-inside : Skips read → (write : A → List ℕ) (xs : List A) → Starts (listAt read size (length xs)) (listBytes write xs) xs
+      → (pre post : List ℕ) (at : ℕ) → length pre ≡ at → listAt read size (length xs) (pre ++ (listBytes write xs ++ post)) at ≡ xs
+  listAt-inside skips write xs starts = inside (listAt read size (length xs)) (listAt-skips skips (length xs)) (listBytes write xs) xs starts
+
 -- what holds at the head of a loop that reads n items, when i of them are read
 pub record Filled {A : Type 0} (read : List ℕ → ℕ → A) (size n : ℕ) (bytes : List ℕ) (at : ℕ) (out : List A) (i : ℕ) : Type 0 where
   pub most : i ≤ n

@@ -3,5 +3,9 @@ pub mod Entry
 pub mod Every
 pub mod Ascends
 pub mod Either
-pub mod Count
+pub mod Numbers
+pub mod Meaning
+pub mod Unused
+pub mod Accepted
+pub mod Back
 pub mod Mask

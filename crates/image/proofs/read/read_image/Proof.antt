@@ -1,9 +1,9 @@
--- `image::read::read_image` meets its contract. Refused bytes leave the state; what is not refused has an image's length (`whole`) and is read.
+-- `image::read::read_image` meets its contract. Refused bytes leave the state; what is not refused has an image's length (`accepted`) and is read.
 -- Assumes nothing.
 use native.Mathlib.Omega.{arith}
 use mathlib.Core.Path.{_≡_, sym, ap, _∙_}
 use Rattle.ff_state.specs.declared.state.FfState.{FfState}
-use Rattle.image_parts.proofs.Count.{whole}
+use Rattle.image_parts.proofs.Accepted.{accepted}
 use Rattle.image.specs.Read.{stateOf, readImage}
 use Rattle.image.specs.declared.read.ImageRead.{ImageRead}
 use Rattle.image.specs.declared.read.ReadAnswer.the-variants.{Accepted}
@@ -19,7 +19,7 @@ unfolding readImage
 returns c = rw (← c .before .image-refused .ensures, c .if1 .taken)
 
 state-of-requires : tie.Need-state-of-requires
-state-of-requires c κs = omega (arith, whole _ (sym (c .before .image-refused .ensures) ∙ c .if1 .left))
+state-of-requires c κs = omega (arith, accepted _ (sym (c .before .image-refused .ensures) ∙ c .if1 .left) .long)
 
 returns-2 : tie.Need-returns-2
 unfolding readImage

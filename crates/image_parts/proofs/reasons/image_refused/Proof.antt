@@ -5,7 +5,7 @@ use mathlib.Core.Path.{sym, _∙_}
 use borrow.Author.Tests.{eq-eqb, ne-eqb}
 use borrow.Author.Needs.{needs}
 use Rattle.image_parts.specs.Reasons.{refused}
-use Rattle.image_parts.proofs.Count.{few-entries}
+use Rattle.image_parts.proofs.Numbers.{few-entries}
 use Rattle.image_parts.proofs.reasons.image_refused.Statement.{statement}
 use Rattle.image_parts.proofs.reasons.image_refused.Tie as tie
 

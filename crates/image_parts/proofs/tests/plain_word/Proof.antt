@@ -1,6 +1,5 @@
 -- `image_parts::tests::plain_word` meets its contract. The first test is the definition's, and where it fails the second is the answer.
 -- Assumes nothing.
-use mathlib.Core.Path.{_≡_, refl}
 use borrow.Author.Tests.{le-leb, lt-leb}
 use Rattle.image_parts.specs.Tests.{plainWord}
 use Rattle.image_parts.proofs.tests.plain_word.Statement.{statement}

@@ -1,0 +1,98 @@
+-- What holds of an image that no reason refuses, in the terms of its parts.
+-- Assumes nothing.
+use Prim.Native.Nat.{ℕ, _+_, _-_, _*_, _≤_, _<_}
+use native.Mathlib.Omega.{arith}
+use mathlib.Core.Path.{_≡_, sym}
+use mathlib.Core.Bool.{Bool, true, false, not, _&&_, _||_, true≢false}
+use mathlib.Core.List.{List}
+use lib.Dec.{eqb}
+use lib.ListN.{length, drop, replicate}
+use borrow.Author.Tests.{ltb-false, leb-true, eqb-true, not-false}
+use Rattle.d3d9_types.specs.Light.{defaultLight}
+use Rattle.codec.specs.Little.{numberAt}
+use Rattle.codec.specs.Light.{lightAt}
+use Rattle.light_table.specs.Bits.{hasBit}
+use Rattle.light_table.specs.Entry.{zeroEntry}
+use Rattle.light_table.specs.Overflow.{ascending}
+use Rattle.image_parts.specs.Entry.{entryAt}
+use Rattle.image_parts.specs.Lists.{listAt}
+use Rattle.image_parts.specs.Tests.{nanFree, lightsNanFree, entriesNanFree, ascends, flags, flagAt, zeros, bitsDefined, bitDefined, slotsDefault, slotDefault, defaultAt}
+use Rattle.image_parts.specs.Reasons.{anotherLength, dirtyAbove63, zeroByteSet, indexAbove255, countAbove56, countOf, numbersRefused, notAscending, enableNotFlag, unusedNotZero, entriesRefused, enabledUndefined, undefinedNotDefault, slotsRefused, anotherNaN, refused}
+use Rattle.image_parts.proofs.Either.{first, rest}
+use Rattle.image_parts.proofs.Every.{every-holds}
+use Rattle.image_parts.proofs.Meaning.{default-is}
+use Rattle.image_parts.proofs.Numbers.{few-entries}
+use Rattle.image_parts.proofs.Unused.{unused-entries}
+
+pub record Accepted (bytes : List ℕ) : Type 0 where
+  pub long : length bytes ≡ 24_204
+  pub dirty : numberAt 1 bytes 17_926 ≤ 63
+  pub zero : numberAt 1 bytes 17_927 ≡ 0
+  pub index : numberAt 2 bytes 17_928 ≤ 255
+  pub count : countOf bytes ≤ 56
+  pub sorted : ascending 8 (listAt entryAt 112 (countOf bytes) bytes 17_932) ≡ true
+  pub enables : (k : ℕ) → k < countOf bytes → entryAt bytes (17_932 + 112 * k) .enabled ≤ 1
+  pub unused : drop (countOf bytes) (listAt entryAt 112 56 bytes 17_932) ≡ replicate (56 - countOf bytes) zeroEntry
+  pub enabled-defined : (i : ℕ) → i < 8 → hasBit (numberAt 1 bytes 17_924) i ≡ true → hasBit (numberAt 1 bytes 17_925) i ≡ true
+  pub undefined-default : (i : ℕ) → i < 8 → hasBit (numberAt 1 bytes 17_925) i ≡ false → lightAt bytes (17_092 + 104 * i) ≡ defaultLight
+  pub one-nan : (nanFree 4_273 bytes 0 && (lightsNanFree bytes 17_092 && entriesNanFree bytes 17_932)) ≡ true
+
+-- the tests of a count and a list of bytes, over any count and place
+module _ (n : ℕ) (bytes : List ℕ) (at : ℕ) where
+  ascends-is : not (ascends n bytes at) ≡ false → ascending 8 (listAt entryAt 112 n bytes at) ≡ true
+  unfolding ascends
+  ascends-is h = not-false (ascending 8 (listAt entryAt 112 n bytes at)) h
+
+  flags-are : not (flags n bytes at) ≡ false → (k : ℕ) → k < n → entryAt bytes (at + 112 * k) .enabled ≤ 1
+  unfolding flags
+  flags-are h k l =
+      leb-true (entryAt bytes (at + 112 * k) .enabled) 1 (every-holds (flagAt bytes at) n (not-false (flags n bytes at) h) k l)
+
+or-here : (a b : Bool) → (a || b) ≡ true → a ≡ false → b ≡ true
+or-here true b h e = absurd (true≢false e)
+or-here false b h e = h
+
+implies : (a b : Bool) → (not a || b) ≡ true → a ≡ true → b ≡ true
+implies true b h e = h
+implies false b h e = absurd (true≢false (sym e))
+
+bits-are : (e d : ℕ) → not (bitsDefined e d) ≡ false → (i : ℕ) → i < 8 → hasBit e i ≡ true → hasBit d i ≡ true
+unfolding bitsDefined
+bits-are e d h i l on =
+    implies (hasBit e i) (hasBit d i) (every-holds (bitDefined e d) 8 (not-false (bitsDefined e d) h) i l) on
+
+slots-are : (d : ℕ) (bytes : List ℕ) (at : ℕ) → at + 832 ≤ length bytes → not (slotsDefault d bytes at) ≡ false → (i : ℕ) → i < 8 → hasBit d i ≡ false
+    → lightAt bytes (at + 104 * i) ≡ defaultLight
+unfolding slotsDefault
+slots-are d bytes at room h i l off =
+    default-is bytes (at + 104 * i) (omega arith)
+    (or-here (hasBit d i) (defaultAt bytes (at + 104 * i)) (every-holds (slotDefault d bytes at) 8 (not-false (slotsDefault d bytes at) h) i l) off)
+
+pub accepted : (bytes : List ℕ) → refused bytes ≡ false → Accepted bytes
+unfolding refused numbersRefused entriesRefused slotsRefused anotherNaN
+accepted bytes h =
+    let len : length bytes ≡ 24_204 = eqb-true (length bytes) 24_204 (not-false (eqb (length bytes) 24_204) (first (anotherLength bytes) _ h)) in
+    let h₁ = rest (anotherLength bytes) (numbersRefused bytes || (entriesRefused bytes || (slotsRefused bytes || anotherNaN bytes))) h in
+    let numbers = first (numbersRefused bytes) _ h₁ in
+    let h₂ = rest (numbersRefused bytes) (entriesRefused bytes || (slotsRefused bytes || anotherNaN bytes)) h₁ in
+    let entries = first (entriesRefused bytes) _ h₂ in
+    let h₃ = rest (entriesRefused bytes) (slotsRefused bytes || anotherNaN bytes) h₂ in
+    let slots = first (slotsRefused bytes) _ h₃ in
+    let nans = rest (slotsRefused bytes) (anotherNaN bytes) h₃ in
+    let n₁ = rest (dirtyAbove63 bytes) (zeroByteSet bytes || (indexAbove255 bytes || countAbove56 bytes)) numbers in
+    let n₂ = rest (zeroByteSet bytes) (indexAbove255 bytes || countAbove56 bytes) n₁ in
+    let e₁ = rest (notAscending bytes) (enableNotFlag bytes || unusedNotZero bytes) entries in
+    let few : countOf bytes ≤ 56 = few-entries bytes numbers in
+    record {
+      long = len;
+      dirty = ltb-false 63 (numberAt 1 bytes 17_926) (first (dirtyAbove63 bytes) _ numbers);
+      zero = eqb-true (numberAt 1 bytes 17_927) 0 (not-false (eqb (numberAt 1 bytes 17_927) 0) (first (zeroByteSet bytes) _ n₁));
+      index = ltb-false 255 (numberAt 2 bytes 17_928) (first (indexAbove255 bytes) _ n₂);
+      count = few;
+      sorted = ascends-is (countOf bytes) bytes 17_932 (first (notAscending bytes) _ entries);
+      enables = flags-are (countOf bytes) bytes 17_932 (first (enableNotFlag bytes) _ e₁);
+      unused = unused-entries (countOf bytes) bytes 17_932 few (omega arith) (not-false (zeros (6_272 - 112 * countOf bytes) bytes (17_932 + 112 * countOf bytes)) (rest (enableNotFlag bytes) (unusedNotZero bytes) e₁));
+      enabled-defined = bits-are (numberAt 1 bytes 17_924) (numberAt 1 bytes 17_925) (first (enabledUndefined bytes) _ slots);
+      undefined-default = slots-are (numberAt 1 bytes 17_925) bytes 17_092 (omega arith) (rest (enabledUndefined bytes) (undefinedNotDefault bytes) slots);
+      one-nan = not-false (nanFree 4_273 bytes 0 && (lightsNanFree bytes 17_092 && entriesNanFree bytes 17_932)) nans;
+    }

@@ -1,0 +1,66 @@
+-- What the tests say of bytes that pass them: which light, which entries and which floats are read from them.
+-- Assumes nothing.
+use Prim.Native.Nat.{ℕ, _+_, _-_, _%_, _^_, _≤_, _<_}
+use native.Mathlib.Omega.{arith}
+use mathlib.Core.Path.{_≡_, refl, sym, ap, subst, _∙_}
+use mathlib.Core.Bool.{Bool, true, false, not, _||_}
+use mathlib.Core.List.{List, _++_}
+use lib.Dec.{T, leb, eqb}
+use lib.Ieee.{binary32, isNan, toBits, ofBits}
+use lib.Ieee.Bits.{toBits-ofBits, nanBits-is}
+use lib.ListN.{length, getD, take, drop, length-drop, take-append-drop}
+use lib.Seq.{length-take-le, getD-take, getD-drop, ext-getD}
+use borrow.Author.Tests.{eqb-true, leb-true}
+use Rattle.d3d9_types.specs.Light.{defaultLight, defaultLight-fits}
+use Rattle.float32.proofs.Nan.{below-is-no-nan}
+use Rattle.codec.specs.Light.{lightBytes, lightAt}
+use Rattle.codec.proofs.Inside.{Skips, Starts, inside}
+use Rattle.codec.proofs.Laws.Light.{length-lightBytes, lightAt-skips, lightAt-starts}
+use Rattle.image_parts.specs.Tests.{plainWord, same, sameByte, defaultAt}
+use Rattle.image_parts.proofs.Every.{every-holds}
+
+module _ (ws bytes : List ℕ) (at : ℕ) (room : at + length ws ≤ length bytes) (h : same ws bytes at ≡ true) where
+  -- ws stand there
+  pub same-is : take (length ws) (drop at bytes) ≡ ws
+  unfolding same
+  same-is =
+      let rest : length ws ≤ length (drop at bytes) = rw length-drop (omega arith) in
+      let long : length (take (length ws) (drop at bytes)) ≡ length ws = length-take-le (length ws) (drop at bytes) rest in
+      ext-getD 0 (take (length ws) (drop at bytes)) ws long
+      (λ (i : ℕ) (l : i < length (take (length ws) (drop at bytes))).
+      let less : i < length ws = rw long at l in
+      getD-take (length ws) (drop at bytes) i 0 less
+      ∙ getD-drop at bytes i 0
+      ∙ eqb-true (getD bytes (at + i) 0) (getD ws i 0) (every-holds (sameByte ws bytes at) (length ws) h i less))
+
+  -- and read as what they read as anywhere
+  pub same-reads : {A : Type 0} (read : List ℕ → ℕ → A) (x : A) → Skips read → Starts read ws x → read bytes at ≡ x
+  same-reads read x skips starts =
+      let parts : bytes ≡ take at bytes ++ (ws ++ drop (length ws) (drop at bytes)) =
+      sym (take-append-drop at bytes)
+      ∙ ap (λ (l : List ℕ). take at bytes ++ l) (sym (take-append-drop (length ws) (drop at bytes)) ∙ ap (λ (l : List ℕ). l ++ drop (length ws) (drop at bytes)) same-is) in
+      ap (λ (l : List ℕ). read l at) parts
+      ∙ inside read skips ws x starts (take at bytes) (drop (length ws) (drop at bytes)) at (length-take-le at bytes (omega arith))
+
+-- a slot that passes holds the default light
+pub default-is : (bytes : List ℕ) (at : ℕ) → at + 104 ≤ length bytes → defaultAt bytes at ≡ true → lightAt bytes at ≡ defaultLight
+unfolding defaultAt
+default-is bytes at room h =
+    same-reads (lightBytes defaultLight) bytes at (rw length-lightBytes room) h lightAt defaultLight lightAt-skips (lightAt-starts defaultLight-fits)
+
+the-nan : toBits binary32 (ofBits binary32 0x7FC0_0000) ≡ 0x7FC0_0000
+unfolding toBits ofBits
+the-nan = refl
+
+-- a word that passes is written as it was read
+pub plain-back : (n : ℕ) → n < 2 ^ 32 → plainWord n ≡ true → toBits binary32 (ofBits binary32 n) ≡ n
+unfolding plainWord
+plain-back n small h = by-cases (leb (n % 0x8000_0000) 0x7F80_0000) refl h
+  where
+    by-cases : (t : Bool) → leb (n % 0x8000_0000) 0x7F80_0000 ≡ t → (t || eqb n 0x7FC0_0000) ≡ true → toBits binary32 (ofBits binary32 n) ≡ n
+    by-cases true e p =
+        let no : isNan (ofBits binary32 n) ≡ false = sym (nanBits-is binary32 n) ∙ below-is-no-nan n (leb-true (n % 0x8000_0000) 0x7F80_0000 e) in
+        toBits-ofBits binary32 n small (subst (λ (b : Bool). T (not b)) (sym no) tt)
+    by-cases false e p =
+        let is : n ≡ 0x7FC0_0000 = eqb-true n 0x7FC0_0000 p in
+        ap (λ (k : ℕ). toBits binary32 (ofBits binary32 k)) is ∙ the-nan ∙ sym is
