@@ -3,10 +3,6 @@ mod lists;
 mod read;
 mod write;
 
-pub use lists::put_entries;
-pub use lists::put_lights;
-pub use lists::put_palette;
-pub use lists::put_textures;
 pub use read::ImageRead;
 pub use read::ReadAnswer;
 pub use read::read_image;
