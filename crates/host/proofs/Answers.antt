@@ -15,11 +15,11 @@ pub length-wrong : (n : ℕ) (l : List ℕ) → (length l ≡ n → ⊥) → len
 unfolding lengthNumber
 length-wrong n l h = rw (ne-eqb (length l) n h)
 
-module _ {number : ℕ} (bytes out : List ℕ) where
-  pub refused : {k : ℕ} → number ≡ suc k → answer (suc k) out ≡ answered number bytes out
+module _ {A : Type 0} {number : ℕ} (new out : A) where
+  pub refused : {k : ℕ} → number ≡ suc k → answer (suc k) out ≡ answered number new out
   unfolding answered
   refused e = rw e
 
-  pub accepted : {last : List ℕ} → number ≡ 0 → last ≡ bytes → answer 0 last ≡ answered number bytes out
+  pub accepted : {last : A} → number ≡ 0 → last ≡ new → answer 0 last ≡ answered number new out
   unfolding answered
   accepted e q = rw (e, q)

@@ -1,21 +1,21 @@
--- What a host's call leaves: its number, and the slice that it was lent for the result. HOST-ABI.md, 'Conventions'.
+-- What a host's call leaves: its number, and what stands in the place that it was lent. HOST-ABI.md, 'Conventions'.
 use Prim.Native.Nat.{ℕ, zero, suc}
 use mathlib.Core.Bool.{cond}
 use mathlib.Core.List.{List}
 use lib.Dec.{eqb}
 use lib.ListN.{length}
 
-pub record Answer : Type 0 where
+pub record Answer (A : Type 0) : Type 0 where
   pub code : ℕ
-  pub out : List ℕ
+  pub out : A
 
-abbrev pub answer : ℕ → List ℕ → Answer
+abbrev pub answer : {A : Type 0} → ℕ → A → Answer A
 answer code out = record { code = code; out = out }
 
--- The result is written where the number is 0. A refused call leaves the slice as it was.
-unfoldable pub answered : ℕ → List ℕ → List ℕ → Answer
-answered zero bytes out = answer 0 bytes
-answered (suc n) bytes out = answer (suc n) out
+-- The result is written where the number is 0. A refused call leaves what was there.
+unfoldable pub answered : {A : Type 0} → ℕ → A → A → Answer A
+answered zero new out = answer 0 new
+answered (suc n) new out = answer (suc n) out
 
 -- Refusals in order: a number, or the next one where it is 0.
 unfoldable pub orNext : ℕ → ℕ → ℕ

@@ -10,16 +10,16 @@ use Rattle.host.specs.Answer.{Answer, answered, orNext, lengthNumber}
 abbrev pub matrixLength : List ℕ → ℕ
 matrixLength = lengthNumber 64
 
-unfoldable pub ffMatMul : List ℕ → List ℕ → List ℕ → Answer
+unfoldable pub ffMatMul : List ℕ → List ℕ → List ℕ → Answer (List ℕ)
 ffMatMul a b out =
     answered (orNext (matrixLength a) (orNext (matrixLength b) (matrixLength out)))
     (matrixBytes (matMul (matrixAt a 0) (matrixAt b 0))) out
 
-unfoldable pub ffTranspose : List ℕ → List ℕ → Answer
+unfoldable pub ffTranspose : List ℕ → List ℕ → Answer (List ℕ)
 ffTranspose m out =
     answered (orNext (matrixLength m) (matrixLength out)) (matrixBytes (transposed (matrixAt m 0))) out
 
-unfoldable pub ffInverse : List ℕ → List ℕ → Answer
+unfoldable pub ffInverse : List ℕ → List ℕ → Answer (List ℕ)
 ffInverse m out =
     let i = inverse (matrixAt m 0) in
     answered (orNext (matrixLength m) (orNext (matrixLength out) (inverseNumber i))) (matrixBytes (inverseMatrix i)) out

@@ -1,3 +1,8 @@
 // The C interface: each call over byte slices, thin over the crates below.
+mod bits;
+mod images;
+mod lights;
+mod material;
 mod matrices;
 mod scalars;
+mod transforms;

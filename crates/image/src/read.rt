@@ -27,7 +27,8 @@ pub struct ImageRead {
     pub state: FfState,
 }
 
-fn state_of(bytes: &[u8]) -> FfState
+// The state that an image's bytes say, whether or not they are refused.
+pub fn state_of(bytes: &[u8]) -> FfState
     requires { ⌜ 24_204 ≤ length (now bytes) ⌝ }
     ensures { λ r. ⌜ r ≡ stateOf (now (bytes .entry)) ⌝ }
 {
