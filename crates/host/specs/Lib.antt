@@ -1,9 +1,2 @@
-pub mod Answer
 pub mod Matrices
 pub mod Scalars
-pub mod Call
-pub mod Images
-pub mod Transforms
-pub mod Material
-pub mod Lights
-pub mod Bits

@@ -5,10 +5,7 @@ use Rattle.matrix.specs.Product.{matMul}
 use Rattle.matrix.specs.Transposition.{transposed}
 use Rattle.matrix.specs.Inversion.{inverse, inverseNumber, inverseMatrix}
 use Rattle.codec.specs.Matrix.{matrixAt, matrixBytes}
-use Rattle.host.specs.Answer.{Answer, answered, orNext, lengthNumber}
-
-abbrev pub matrixLength : List ℕ → ℕ
-matrixLength = lengthNumber 64
+use Rattle.calls.specs.Answer.{Answer, answered, orNext, matrixLength}
 
 unfoldable pub ffMatMul : List ℕ → List ℕ → List ℕ → Answer (List ℕ)
 ffMatMul a b out =

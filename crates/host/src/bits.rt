@@ -1,39 +1,18 @@
-// Calls on the dirty bits. A mark above 63 is refused 7.
+// The dirty bits.
 ghost use mathlib.Core.Path.{_≡_};
-ghost use Rattle.host.specs.Answer.{answer};
-ghost use Rattle.host.specs.Bits.{both, ffMarkFfVsDirty, ffTakeFfVsDirty};
-use crate::images::put_state;
-use ff_state::MarkAnswer;
-use image::state_of;
-use image_parts::image_refused;
+ghost use Rattle.calls.specs.Answer.{answer};
+ghost use Rattle.calls.specs.Bits.{both, ffMarkFfVsDirty, ffTakeFfVsDirty};
 
 #[no_mangle]
 pub extern "C" fn ff_mark_ff_vs_dirty(image: &mut [u8], bits: u32) -> u32
     ensures { λ r. ⌜ answer r (now (image .exit)) ≡ ffMarkFfVsDirty (now (image .entry)) bits ⌝ }
 {
-    if image_refused(image) {
-        return 9;
-    }
-    let s = state_of(image);
-    let c = s.mark_ff_vs_dirty(bits);
-    let answer = c.answer;
-    let MarkAnswer::Accepted = answer else {
-        return 7;
-    };
-    put_state(image, c.state);
-    0
+    calls::mark_ff_vs_dirty(image, bits)
 }
 
 #[no_mangle]
 pub extern "C" fn ff_take_ff_vs_dirty(image: &mut [u8], out: &mut u32) -> u32
     ensures { λ r. ⌜ answer r (both (now (image .exit)) (now (out .exit))) ≡ ffTakeFfVsDirty (now (image .entry)) (now (out .entry)) ⌝ }
 {
-    if image_refused(image) {
-        return 9;
-    }
-    let s = state_of(image);
-    let taken = s.take_ff_vs_dirty();
-    put_state(image, taken.state);
-    *out = taken.bits;
-    0
+    calls::take_ff_vs_dirty(image, out)
 }

@@ -2,7 +2,7 @@
 mod bits;
 mod images;
 mod lights;
-mod material;
+mod materials;
 mod matrices;
 mod scalars;
 mod transforms;

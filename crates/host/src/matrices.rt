@@ -1,6 +1,6 @@
 // Calls on matrices of 64 bytes. A slice of another length is refused 4, and a refused call writes nothing.
 ghost use mathlib.Core.Path.{_≡_};
-ghost use Rattle.host.specs.Answer.{answer};
+ghost use Rattle.calls.specs.Answer.{answer};
 ghost use Rattle.host.specs.Matrices.{ffMatMul, ffTranspose, ffInverse};
 use codec::matrix_at;
 use codec::put_matrix;

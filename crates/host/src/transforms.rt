@@ -1,101 +1,39 @@
-// Calls on transforms. An unknown state is refused 1, before the length of a slice.
+// Transforms, 64 bytes each.
 ghost use mathlib.Core.Path.{_≡_};
-ghost use Rattle.host.specs.Answer.{answer};
-ghost use Rattle.host.specs.Transforms.{ffSetTransform, ffMultiplyTransform, ffTransform, ffWorldPaletteUsed, ffWorldViewProjection};
-use crate::images::put_state;
-use codec::matrix_at;
-use codec::put_matrix;
-use ff_state::Slot;
-use ff_state::TransformRead;
-use ff_state::slot_of;
-use image::state_of;
-use image_parts::image_refused;
-
-const MATRIX_BYTES: usize = 64;
+ghost use Rattle.calls.specs.Answer.{answer};
+ghost use Rattle.calls.specs.Transforms.{ffSetTransform, ffMultiplyTransform, ffTransform, ffWorldPaletteUsed, ffWorldViewProjection};
 
 #[no_mangle]
 pub extern "C" fn ff_set_transform(image: &mut [u8], state: u32, matrix: &[u8]) -> u32
     ensures { λ r. ⌜ answer r (now (image .exit)) ≡ ffSetTransform (now (image .entry)) state (now (matrix .entry)) ⌝ }
 {
-    if image_refused(image) {
-        return 9;
-    }
-    let slot = slot_of(state);
-    let Slot::At(_) = slot else {
-        return 1;
-    };
-    if matrix.len() != MATRIX_BYTES {
-        return 4;
-    }
-    let s = state_of(image);
-    let c = s.set_transform(state, matrix_at(matrix, 0));
-    put_state(image, c.state);
-    0
+    calls::set_transform(image, state, matrix)
 }
 
 #[no_mangle]
 pub extern "C" fn ff_multiply_transform(image: &mut [u8], state: u32, matrix: &[u8]) -> u32
     ensures { λ r. ⌜ answer r (now (image .exit)) ≡ ffMultiplyTransform (now (image .entry)) state (now (matrix .entry)) ⌝ }
 {
-    if image_refused(image) {
-        return 9;
-    }
-    let slot = slot_of(state);
-    let Slot::At(_) = slot else {
-        return 1;
-    };
-    if matrix.len() != MATRIX_BYTES {
-        return 4;
-    }
-    let s = state_of(image);
-    let c = s.multiply_transform(state, matrix_at(matrix, 0));
-    put_state(image, c.state);
-    0
+    calls::multiply_transform(image, state, matrix)
 }
 
 #[no_mangle]
 pub extern "C" fn ff_transform(image: &[u8], state: u32, out: &mut [u8]) -> u32
     ensures { λ r. ⌜ answer r (now (out .exit)) ≡ ffTransform (now (image .entry)) state (now (out .entry)) ⌝ }
 {
-    if image_refused(image) {
-        return 9;
-    }
-    let s = state_of(image);
-    let read = s.transform(state);
-    let TransformRead::Matrix(m) = read else {
-        return 1;
-    };
-    if out.len() != MATRIX_BYTES {
-        return 4;
-    }
-    put_matrix(out, 0, m);
-    0
+    calls::transform(image, state, out)
 }
 
 #[no_mangle]
 pub extern "C" fn ff_world_palette_used(image: &[u8], out: &mut u32) -> u32
     ensures { λ r. ⌜ answer r (now (out .exit)) ≡ ffWorldPaletteUsed (now (image .entry)) (now (out .entry)) ⌝ }
 {
-    if image_refused(image) {
-        return 9;
-    }
-    let s = state_of(image);
-    *out = s.world_palette_used();
-    0
+    calls::world_palette_used(image, out)
 }
 
 #[no_mangle]
 pub extern "C" fn ff_world_view_projection(image: &[u8], out: &mut [u8]) -> u32
     ensures { λ r. ⌜ answer r (now (out .exit)) ≡ ffWorldViewProjection (now (image .entry)) (now (out .entry)) ⌝ }
 {
-    if image_refused(image) {
-        return 9;
-    }
-    if out.len() != MATRIX_BYTES {
-        return 4;
-    }
-    let s = state_of(image);
-    let m = s.world_view_projection();
-    put_matrix(out, 0, m);
-    0
+    calls::world_view_projection(image, out)
 }

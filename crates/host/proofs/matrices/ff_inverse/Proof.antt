@@ -2,8 +2,8 @@
 -- Assumes nothing.
 use mathlib.Core.Path.{sym, ap, _∙_}
 use Rattle.codec.proofs.Laws.Matrix.{put-matrixBytes}
-use Rattle.host.specs.Answer.{orNext}
-use Rattle.host.proofs.Answers.{length-right, length-wrong, refused, accepted}
+use Rattle.calls.specs.Answer.{orNext}
+use Rattle.calls.proofs.Answers.{length-right, length-wrong, refused, accepted}
 use Rattle.matrix.specs.Inversion.{inverse, inverseNumber, inverseMatrix}
 use Rattle.host.specs.Matrices.{ffInverse}
 use borrow.Author.Needs.{needs}

@@ -4,9 +4,9 @@ use mathlib.Core.Path.{ap, ap₂, _∙_}
 use Rattle.matrix.specs.Product.{matMul}
 use Rattle.codec.specs.Matrix.{matrixBytes}
 use Rattle.codec.proofs.Laws.Matrix.{put-matrixBytes}
-use Rattle.host.specs.Answer.{orNext}
+use Rattle.calls.specs.Answer.{orNext}
 use Rattle.host.specs.Matrices.{ffMatMul}
-use Rattle.host.proofs.Answers.{length-right, length-wrong, refused, accepted}
+use Rattle.calls.proofs.Answers.{length-right, length-wrong, refused, accepted}
 use borrow.Author.Needs.{needs}
 use Rattle.host.proofs.matrices.ff_mat_mul.Statement.{statement}
 use Rattle.host.proofs.matrices.ff_mat_mul.Tie as tie

@@ -3,8 +3,8 @@
 use mathlib.Core.Path.{ap, _∙_}
 use Rattle.codec.specs.Matrix.{matrixBytes}
 use Rattle.codec.proofs.Laws.Matrix.{put-matrixBytes}
-use Rattle.host.specs.Answer.{orNext}
-use Rattle.host.proofs.Answers.{length-right, length-wrong, refused, accepted}
+use Rattle.calls.specs.Answer.{orNext}
+use Rattle.calls.proofs.Answers.{length-right, length-wrong, refused, accepted}
 use Rattle.matrix.specs.Transposition.{transposed}
 use Rattle.host.specs.Matrices.{ffTranspose}
 use borrow.Author.Needs.{needs}

@@ -1,0 +1,7 @@
+pub mod Answer
+pub mod Call
+pub mod Images
+pub mod Transforms
+pub mod Materials
+pub mod Lights
+pub mod Bits
