@@ -89,8 +89,8 @@ fn put_answer(dst: &mut [u8], at: usize, a: Answer, words: &[u32; 16]) -> usize
 
 // Puts the answer to the line s, which has no newline, at `at`. The longest has 16 words of nine
 // bytes, 144.
-pub fn answer_line(s: &[u8], dst: &mut [u8], at: usize) -> usize
-    requires { ⌜ at + 144 ≤ length (now dst) ⌝ }
+pub fn answer_line(s: &[u8], dst: &mut [u8], at: usize, image: &mut [u8], item: &mut [u8]) -> usize
+    requires { ⌜ (at + 144 ≤ length (now dst)) × (104 ≤ length (now item)) ⌝ }
     ensures { λ r. ⌜ r ≤ at + 144 ⌝ }
 {
     let mut words = [0u32; 32];
@@ -98,6 +98,6 @@ pub fn answer_line(s: &[u8], dst: &mut [u8], at: usize) -> usize
         return put_bad(dst, at);
     };
     let mut out = [0u32; 16];
-    let a = call(s[0], n, &words, &mut out);
+    let a = call(s[0], n, &words, &mut out, image, item);
     put_answer(dst, at, a, &out)
 }

@@ -1,7 +1,9 @@
 // The calls, a letter for each. The words of a call come in one array, and those of its answer go
-// to another.
+// to another. Calls on images are images'.
 ghost use Prim.Native.Nat.{_+_, _≤_};
+ghost use lib.ListN.{length};
 ghost use Rattle.replay_lines.specs.Lines.{Within};
+use crate::images::image_call;
 use d3d9_types::D3DMATRIX;
 use d3d9_types::Row;
 use matrix::Inverse;
@@ -16,7 +18,15 @@ pub enum Answer {
 }
 
 // Makes the call `letter` on n words.
-pub fn call(letter: u8, n: usize, words: &[u32; 32], out: &mut [u32; 16]) -> Answer
+pub fn call(
+    letter: u8,
+    n: usize,
+    words: &[u32; 32],
+    out: &mut [u32; 16],
+    image: &mut [u8],
+    item: &mut [u8],
+) -> Answer
+    requires { ⌜ 104 ≤ length (now item) ⌝ }
     ensures { λ r. ⌜ Within r ⌝ }
 {
     match letter {
@@ -25,7 +35,7 @@ pub fn call(letter: u8, n: usize, words: &[u32; 32], out: &mut [u32; 16]) -> Ans
         b'm' => mat_mul(n, words, out),
         b't' => transpose(n, words, out),
         b'i' => inverse(n, words, out),
-        _ => Answer::Bad,
+        _ => image_call(letter, n, words, out, image, item),
     }
 }
 

@@ -46,14 +46,21 @@ fn make_room(out: &[u8], held: usize) -> usize
 }
 
 // Takes a byte: a newline has the line answered, any other is kept.
-fn take(b: u8, line: &mut [u8], out: &mut [u8], held: Held) -> Held
-    requires { ⌜ Fitting (now line) (now out) held ⌝ }
+fn take(
+    b: u8,
+    line: &mut [u8],
+    out: &mut [u8],
+    held: Held,
+    image: &mut [u8],
+    item: &mut [u8],
+) -> Held
+    requires { ⌜ Fitting (now line) (now out) held × (104 ≤ length (now item)) ⌝ }
     ensures { λ r. ⌜ Fitting (now (line .entry)) (now (out .entry)) r ⌝ }
 {
     let kept = held.line;
     if b == b'\n' {
         let at = make_room(out, held.out);
-        let end = answer_line(&line[..kept], out, at);
+        let end = answer_line(&line[..kept], out, at, image, item);
         return Held {
             line: 0,
             out: end,
@@ -67,22 +74,29 @@ fn take(b: u8, line: &mut [u8], out: &mut [u8], held: Held) -> Held
     }
 }
 
-fn take_all(s: &[u8], line: &mut [u8], out: &mut [u8], held: Held) -> Held
-    requires { ⌜ Fitting (now line) (now out) held ⌝ }
+fn take_all(
+    s: &[u8],
+    line: &mut [u8],
+    out: &mut [u8],
+    held: Held,
+    image: &mut [u8],
+    item: &mut [u8],
+) -> Held
+    requires { ⌜ Fitting (now line) (now out) held × (104 ≤ length (now item)) ⌝ }
     ensures { λ r. ⌜ Fitting (now (line .entry)) (now (out .entry)) r ⌝ }
 {
     let mut after = held;
     let mut i = 0;
     while i < s.len() {
-        after = take(s[i], line, out, after);
+        after = take(s[i], line, out, after, image, item);
         i += 1;
     }
     after
 }
 
 // Reads once, and takes what came.
-fn read_some(line: &mut [u8], out: &mut [u8], held: Held) -> Held
-    requires { ⌜ Fitting (now line) (now out) held ⌝ }
+fn read_some(line: &mut [u8], out: &mut [u8], held: Held, image: &mut [u8], item: &mut [u8]) -> Held
+    requires { ⌜ Fitting (now line) (now out) held × (104 ≤ length (now item)) ⌝ }
     ensures { λ r. ⌜ Fitting (now (line .entry)) (now (out .entry)) r ⌝ }
 {
     let mut buffer = io::buffer();
@@ -95,7 +109,7 @@ fn read_some(line: &mut [u8], out: &mut [u8], held: Held) -> Held
         };
     }
     let n = io::count(got, &buffer);
-    take_all(&buffer[..n], line, out, held)
+    take_all(&buffer[..n], line, out, held, image, item)
 }
 
 // A last line with no newline is no call.
@@ -115,6 +129,8 @@ fn last_line(out: &mut [u8], held: Held) -> usize
 pub fn replay() {
     let mut line = [0u8; 1024];
     let mut out = io::large_buffer();
+    let mut image = [0u8; 24204];
+    let mut item = [0u8; 128];
     let mut held = Held {
         line: 0,
         out: 0,
@@ -122,7 +138,7 @@ pub fn replay() {
     };
     let mut turns = u64::MAX;
     while turns > 0 && held.more {
-        held = read_some(&mut line, &mut out, held);
+        held = read_some(&mut line, &mut out, held, &mut image, &mut item);
         turns -= 1;
     }
     let n = last_line(&mut out, held);

@@ -28,9 +28,9 @@ same-length c = search needs
 returns : tie.Need-returns
 returns c = search needs
 
-counted : (c : tie.After-n) → (c .n .given .0 .0 ≤ 32) × (length (now (c .before .before .before .before .before .before .args .s)) ≡ 9 * c .n .given .0 .0 + 1)
+counted : (c : tie.After-n) → (c .n .given .0 .0 ≤ 32) × (length (now (c .before .before .before .before .before .before .before .before .args .s)) ≡ 9 * c .n .given .0 .0 + 1)
 counted c =
-    subst (Counted (now (c .before .before .before .before .before .before .args .s))) (c .n .given .1) (c .before .before .read-words .ensures)
+    subst (Counted (now (c .before .before .before .before .before .before .before .before .args .s))) (c .n .given .1) (c .before .before .read-words .ensures)
 
 shared-slice-read-call : tie.Need-shared-slice-read-call
 shared-slice-read-call c = omega (arith, counted (c .before .before))
@@ -43,6 +43,12 @@ put-answer-requires c κs = search needs
 
 same-length-2 : tie.Need-same-length-2
 same-length-2 c = search needs
+
+same-length-3 : tie.Need-same-length-3
+same-length-3 c = search needs
+
+same-length-4 : tie.Need-same-length-4
+same-length-4 c = search needs
 
 returns-2 : tie.Need-returns-2
 returns-2 c = search needs
@@ -61,4 +67,6 @@ answer-line-spec =
     call-requires
     put-answer-requires
     same-length-2
+    same-length-3
+    same-length-4
     returns-2)

@@ -1,4 +1,4 @@
--- `replay_lines::stream::replay` is safe and ends. The invariant: what is held lies within the two buffers, which keep their lengths.
+-- `replay_lines::stream::replay` is safe and ends. The invariant: what is held lies within the buffers, which keep their lengths.
 -- The measure is the number of turns that are left. Assumes nothing.
 use mathlib.Core.Path.{_≡_}
 use lib.ListN.{length}
@@ -8,10 +8,11 @@ use Rattle.replay_lines.proofs.stream.replay.Statement.{statement}
 use Rattle.replay_lines.proofs.stream.replay.Tie as tie
 
 abbrev Inv-loop : tie.InvT-loop
-Inv-loop line₀ out₀ held₀ turns₀ line out held turns = (length line ≡ 1024) × (length out ≡ 65536) × Fitting line out held
+Inv-loop line₀ out₀ image₀ item₀ held₀ turns₀ line out image item held turns =
+    (length line ≡ 1024) × (length out ≡ 65536) × (length image ≡ 24204) × (length item ≡ 128) × Fitting line out held
 
 abbrev μ-loop : tie.MeasureT-loop
-μ-loop line₀ out₀ held₀ turns₀ line out held turns = turns
+μ-loop line₀ out₀ image₀ item₀ held₀ turns₀ line out image item held turns = turns
 
 large-buffer-requires : tie.Need-large-buffer-requires Inv-loop μ-loop
 large-buffer-requires c κs = search needs
@@ -24,6 +25,12 @@ slice-aggregate-read-some c = search needs
 
 slice-aggregate-read-some-2 : tie.Need-slice-aggregate-read-some-2 Inv-loop μ-loop
 slice-aggregate-read-some-2 c = search needs
+
+slice-aggregate-read-some-3 : tie.Need-slice-aggregate-read-some-3 Inv-loop μ-loop
+slice-aggregate-read-some-3 c = search needs
+
+slice-aggregate-read-some-4 : tie.Need-slice-aggregate-read-some-4 Inv-loop μ-loop
+slice-aggregate-read-some-4 c = search needs
 
 read-some-requires : tie.Need-read-some-requires Inv-loop μ-loop
 read-some-requires c κs = search needs
@@ -62,6 +69,8 @@ replay-spec =
     loop-holds
     slice-aggregate-read-some
     slice-aggregate-read-some-2
+    slice-aggregate-read-some-3
+    slice-aggregate-read-some-4
     read-some-requires
     sub-turns
     loop-less

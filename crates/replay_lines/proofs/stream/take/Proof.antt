@@ -15,8 +15,8 @@ slice-reshare-prefix-answer-line c = search needs
 
 slice-aggregate-answer-line : tie.Need-slice-aggregate-answer-line
 slice-aggregate-answer-line c =
-    let s = c .before .before .before .before .before .before in
-    sym (length-take-le (s .args .held .line) (now (s .args .line)) (s .pre .0))
+    let s = c .before .before .before .before .before .before .before .before in
+    sym (length-take-le (s .args .held .line) (now (s .args .line)) (s .pre .0 .0))
 
 answer-line-requires : tie.Need-answer-line-requires
 answer-line-requires c κs = search needs
@@ -27,14 +27,20 @@ same-length c = search needs
 same-length-2 : tie.Need-same-length-2
 same-length-2 c = search needs
 
+same-length-3 : tie.Need-same-length-3
+same-length-3 c = search needs
+
+same-length-4 : tie.Need-same-length-4
+same-length-4 c = search needs
+
 returns : tie.Need-returns
 returns c = search needs
 
 keep-requires : tie.Need-keep-requires
 keep-requires c κs = search needs
 
-same-length-3 : tie.Need-same-length-3
-same-length-3 c = search needs
+same-length-5 : tie.Need-same-length-5
+same-length-5 c = search needs
 
 returns-2 : tie.Need-returns-2
 returns-2 c = search needs
@@ -49,7 +55,9 @@ take-spec =
     answer-line-requires
     same-length
     same-length-2
+    same-length-3
+    same-length-4
     returns
     keep-requires
-    same-length-3
+    same-length-5
     returns-2)

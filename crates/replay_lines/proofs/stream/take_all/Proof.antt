@@ -9,11 +9,11 @@ use Rattle.replay_lines.proofs.stream.take_all.Statement.{statement}
 use Rattle.replay_lines.proofs.stream.take_all.Tie as tie
 
 abbrev Inv-loop : tie.InvT-loop
-Inv-loop s line₀ out₀ after₀ i₀ line out after i =
-    (i ≤ length s) × (length line ≡ length line₀) × (length out ≡ length out₀) × Fitting line₀ out₀ after
+Inv-loop s line₀ out₀ image₀ item₀ after₀ i₀ line out image item after i =
+    (i ≤ length s) × (length line ≡ length line₀) × (length out ≡ length out₀) × (length image ≡ length image₀) × (length item ≡ length item₀) × Fitting line₀ out₀ after × (104 ≤ length item₀)
 
 abbrev μ-loop : tie.MeasureT-loop
-μ-loop s line₀ out₀ after₀ i₀ line out after i = length s - i
+μ-loop s line₀ out₀ image₀ item₀ after₀ i₀ line out image item after i = length s - i
 
 loop-holds : tie.Need-loop-holds Inv-loop μ-loop
 loop-holds c = search needs
@@ -39,6 +39,12 @@ same-length c = search needs
 same-length-2 : tie.Need-same-length-2 Inv-loop μ-loop
 same-length-2 c = search needs
 
+same-length-3 : tie.Need-same-length-3 Inv-loop μ-loop
+same-length-3 c = search needs
+
+same-length-4 : tie.Need-same-length-4 Inv-loop μ-loop
+same-length-4 c = search needs
+
 returns : tie.Need-returns Inv-loop μ-loop
 returns c = search needs
 
@@ -56,4 +62,6 @@ take-all-spec =
     loop-again
     same-length
     same-length-2
+    same-length-3
+    same-length-4
     returns)
