@@ -1,15 +1,15 @@
 -- A mask made from a test has the test's bits and no others, and two words of n bits with the same bits are equal.
 -- Assumes nothing.
-use Prim.Native.Nat.{ℕ, zero, suc, _+_, _*_, _/_, _%_, _^_, _<_}
+use Prim.Native.Nat.{ℕ, zero, suc, _/_, _%_, _^_, _<_}
 use native.Mathlib.Nat.{div-one, pow-suc}
 use native.Mathlib.Omega.{arith}
 use mathlib.Core.Path.{_≡_, refl, sym, ap, _∙_}
-use mathlib.Core.Bool.{Bool, true, false, cond, true≢false}
+use mathlib.Core.Bool.{Bool, true, false, true≢false}
 use lib.Dec.{eqb}
-use borrow.Author.Tests.{eqb-true, eqb-false, ne-eqb}
+use borrow.Author.Tests.{eqb-true, eqb-false}
 use Rattle.lemmas.proofs.Branch.{branch}
-use Rattle.light_table.specs.Bits.{hasBit, withBit}
-use Rattle.light_table.proofs.Words.{with-bit-lt, has-with-bit, has-bit-suc, has-none}
+use Rattle.light_table.specs.Bits.{hasBit}
+use Rattle.light_table.proofs.Words.{with-bit-lt, has-with-bit, has-bit-suc}
 use Rattle.image_parts.specs.Masks.{maskOf}
 
 module _ (p : ℕ → Bool) where

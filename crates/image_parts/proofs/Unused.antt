@@ -48,7 +48,7 @@ zeroLight-fits =
       phi = zero-fits;
     }
 
-zero-bytes : entryBytes zeroEntry ≡ replicate 112 0
+pub zero-bytes : entryBytes zeroEntry ≡ replicate 112 0
 unfolding entryBytes zeroEntry zeroLight lightBytes colorBytes rowBytes vectorBytes flatten floatBytes littleBytes toBits
 zero-bytes = refl
 

@@ -1,0 +1,120 @@
+-- Bytes that pass the tests of an image: what was written for a light, an entry or a matrix at a place passes there, and bytes that pass every test are not refused.
+-- Assumes nothing.
+use Prim.Native.Nat.{ℕ, zero, suc, _+_, _-_, _*_, _≤_, _<_}
+use native.Mathlib.Nat.{mul-suc, mul-zero, mul-assoc}
+use native.Mathlib.Omega.{arith}
+use mathlib.Core.Path.{_≡_, refl}
+use mathlib.Core.Bool.{Bool, true, false, not, _&&_, _||_}
+use mathlib.Core.List.{List, [], _∷_}
+use lib.Dec.{ltb}
+use lib.ListN.{length, getD}
+use borrow.Author.Tests.{ltb-true, ltb-false, le-ltb, eq-eqb}
+use Rattle.d3d9_types.specs.Light.{lightFits}
+use Rattle.d3d9_types.specs.Material.{materialFits}
+use Rattle.d3d9_types.specs.Matrix.{matrixFits}
+use Rattle.d3d9_types.specs.declared.light.D3DLIGHT9.{D3DLIGHT9}
+use Rattle.d3d9_types.specs.declared.material.D3DMATERIAL9.{D3DMATERIAL9}
+use Rattle.d3d9_types.specs.declared.matrix.D3DMATRIX.{D3DMATRIX}
+use Rattle.codec.specs.Little.{littleBytes, numberAt}
+use Rattle.codec.specs.Matrix.{matrixBytes}
+use Rattle.codec.specs.Material.{materialBytes}
+use Rattle.codec.specs.Light.{lightBytes}
+use Rattle.light_table.specs.declared.entry.OverflowLight.{OverflowLight}
+use Rattle.image_parts.specs.Entry.{entryBytes}
+use Rattle.image_parts.specs.Every.{every}
+use Rattle.image_parts.specs.Lists.{listBytes}
+use Rattle.image_parts.specs.Tests.{plainAt, nanFree, lightsNanFree, entriesNanFree, ascends, flags, zeros, same, sameByte, bitsDefined, slotsDefault}
+use Rattle.image_parts.specs.Reasons.{countOf, numbersRefused, entriesRefused, slotsRefused, anotherNaN, refused}
+use Rattle.image_parts.proofs.Every.{every-is, every-holds}
+use Rattle.image_laws.proofs.IsAt.{IsAt, byte-is, behind}
+use Rattle.image_laws.proofs.Words.{wordBytes, matrixWords, materialWords, lightFloats, matrix-words, material-words, light-words, entry-words, matrix-plain, material-plain, light-plain, plain-pass}
+
+-- ---- floats
+
+module _ (bytes : List ℕ) (at : ℕ) where
+  pub matrix-pass : (m : D3DMATRIX) → matrixFits m → IsAt (matrixBytes m) bytes at → nanFree 16 bytes at ≡ true
+  matrix-pass m fits h = plain-pass (matrixWords m) bytes at (rw (matrix-words m) at h) (matrix-plain fits)
+
+  pub material-pass : (m : D3DMATERIAL9) → materialFits m → IsAt (materialBytes m) bytes at → nanFree 17 bytes at ≡ true
+  material-pass m fits h = plain-pass (materialWords m) bytes at (rw (material-words m) at h) (material-plain fits)
+
+  -- behind the type
+  pub light-pass : (l : D3DLIGHT9) → lightFits l → IsAt (lightBytes l) bytes at → nanFree 25 bytes (at + 4) ≡ true
+  unfolding listBytes littleBytes
+  light-pass l fits h =
+      plain-pass (lightFloats l) bytes (at + 4) (behind (wordBytes (l .«type_» ∷ [])) (wordBytes (lightFloats l)) bytes at (rw (light-words l) at h)) (light-plain fits)
+
+  -- behind index, enable and type
+  pub entry-pass : (e : OverflowLight) → lightFits (e .light) → IsAt (entryBytes e) bytes at → nanFree 25 bytes (at + 12) ≡ true
+  unfolding listBytes littleBytes
+  entry-pass e fits h =
+      plain-pass (lightFloats (e .light)) bytes (at + 12)
+      (behind (wordBytes (e .index ∷ e .enabled ∷ e .light .«type_» ∷ [])) (wordBytes (lightFloats (e .light))) bytes at (rw (entry-words e) at h)) (light-plain fits)
+
+  -- one stretch of floats behind another
+  pub nan-join : (a b : ℕ) → nanFree a bytes at ≡ true → nanFree b bytes (at + 4 * a) ≡ true → nanFree (a + b) bytes at ≡ true
+  unfolding nanFree
+  nan-join a b h k =
+      every-is (plainAt bytes at) (a + b)
+      (λ (i : ℕ) (l : i < a + b). by-cases i l (ltb i a) refl)
+    where
+      by-cases : (i : ℕ) → i < a + b → (t : Bool) → ltb i a ≡ t → plainAt bytes at i ≡ true
+      by-cases i l true e = every-holds (plainAt bytes at) a h i (ltb-true i a e)
+      by-cases i l false e =
+          let from : a ≤ i = ltb-false i a e in
+          let o : at + 4 * i ≡ at + 4 * a + 4 * (i - a) = omega arith in
+          rw o (every-holds (plainAt bytes (at + 4 * a)) b k (i - a) (omega arith))
+
+pub nan-items : (bytes : List ℕ) (at m n : ℕ) → ((i : ℕ) → i < n → nanFree m bytes (at + 4 * m * i) ≡ true) → nanFree (m * n) bytes at ≡ true
+unfolding nanFree every
+nan-items bytes at m zero h = rw mul-zero
+nan-items bytes at m (suc n) h =
+    let e : 4 * m * n ≡ 4 * (m * n) = mul-assoc 4 m n in
+    rw mul-suc (nan-join bytes at (m * n) m (nan-items bytes at m n (λ (i : ℕ) (l : i < n). h i (omega arith))) (rw e at (h n (omega arith))))
+
+-- ---- bytes that are at a place
+
+pub is-same : (ws bytes : List ℕ) (at : ℕ) → IsAt ws bytes at → same ws bytes at ≡ true
+unfolding same
+is-same ws bytes at h =
+    every-is (sameByte ws bytes at) (length ws)
+    (λ (i : ℕ) (l : i < length ws). eq-eqb (getD bytes (at + i) 0) (getD ws i 0) (byte-is ws bytes at i h l))
+
+-- ---- all of them
+
+pub record Passes (bytes : List ℕ) : Type 0 where
+  pub long : length bytes ≡ 24_204
+  pub dirty : numberAt 1 bytes 17_926 ≤ 63
+  pub zero : numberAt 1 bytes 17_927 ≡ 0
+  pub index : numberAt 2 bytes 17_928 ≤ 255
+  pub count : countOf bytes ≤ 56
+  pub sorted : ascends (countOf bytes) bytes 17_932 ≡ true
+  pub enables : flags (countOf bytes) bytes 17_932 ≡ true
+  pub unused : zeros (6_272 - 112 * countOf bytes) bytes (17_932 + 112 * countOf bytes) ≡ true
+  pub enabled-defined : bitsDefined (numberAt 1 bytes 17_924) (numberAt 1 bytes 17_925) ≡ true
+  pub undefined-default : slotsDefault (numberAt 1 bytes 17_925) bytes 17_092 ≡ true
+  pub floats : nanFree 4_273 bytes 0 ≡ true
+  pub light-floats : lightsNanFree bytes 17_092 ≡ true
+  pub entry-floats : entriesNanFree bytes 17_932 ≡ true
+
+neither : {a b : Bool} → a ≡ false → b ≡ false → (a || b) ≡ false
+neither p q = rw (p, q)
+
+both : {a b : Bool} → a ≡ true → b ≡ true → (a && b) ≡ true
+both p q = rw (p, q)
+
+passed : {t : Bool} → t ≡ true → not t ≡ false
+passed p = rw p
+
+pub passes : (bytes : List ℕ) → Passes bytes → refused bytes ≡ false
+unfolding refused numbersRefused entriesRefused slotsRefused anotherNaN
+passes bytes p =
+    let n = countOf bytes in
+    let length-is = passed (eq-eqb (length bytes) 24_204 (p .long)) in
+    let dirty-is = le-ltb 63 (numberAt 1 bytes 17_926) (p .dirty) in
+    let zero-is = passed (eq-eqb (numberAt 1 bytes 17_927) 0 (p .zero)) in
+    let numbers = neither dirty-is (neither zero-is (neither (le-ltb 255 (numberAt 2 bytes 17_928) (p .index)) (le-ltb 56 n (p .count)))) in
+    let entries = neither (passed (p .sorted)) (neither (passed (p .enables)) (passed (p .unused))) in
+    let slots = neither (passed (p .enabled-defined)) (passed (p .undefined-default)) in
+    let nans = passed (both (p .floats) (both (p .light-floats) (p .entry-floats))) in
+    neither length-is (neither numbers (neither entries (neither slots nans)))

@@ -1,0 +1,33 @@
+-- The calls one after the other: a valid state that is written reads back, whatever stood in the destination and in the state before.
+-- Assumes nothing.
+use Prim.Native.Nat.{ℕ}
+use mathlib.Core.Path.{_≡_, ap, _∙_}
+use mathlib.Core.Bool.{false}
+use mathlib.Core.List.{List}
+use lib.ListN.{length}
+use borrow.Author.Tests.{eq-eqb}
+use Rattle.ff_state.specs.Valid.{Valid}
+use Rattle.ff_state.specs.declared.state.FfState.{FfState}
+use Rattle.image_parts.specs.Reasons.{refused}
+use Rattle.image.specs.Format.{imageBytes}
+use Rattle.image.specs.Read.{stateOf, readImage}
+use Rattle.image.specs.Write.{Outcome, outcome, writeImage}
+use Rattle.image.specs.declared.read.ImageRead.{ImageRead}
+use Rattle.image.specs.declared.read.ReadAnswer.the-variants.{Accepted}
+use Rattle.image.specs.declared.write.WriteAnswer.the-variants.{Written}
+use Rattle.image_laws.proofs.ReadWritten.{read-written}
+use Rattle.image_laws.proofs.ValidAccepted.{valid-accepted}
+
+pub write-writes : (s : FfState) (dst : List ℕ) → length dst ≡ 24_204 → writeImage s dst ≡ outcome Written (imageBytes s)
+unfolding writeImage
+write-writes s dst h = rw (eq-eqb (length dst) 24_204 h)
+
+pub read-reads : (t : FfState) (bytes : List ℕ) → refused bytes ≡ false → readImage t bytes ≡ record { answer = Accepted; state = stateOf bytes }
+unfolding readImage
+read-reads t bytes h = rw h
+
+pub written-then-read : (s t : FfState) (dst : List ℕ) → Valid s → length dst ≡ 24_204 → readImage t (writeImage s dst .bytes) ≡ record { answer = Accepted; state = s }
+written-then-read s t dst v h =
+    ap (λ (o : Outcome). readImage t (o .bytes)) (write-writes s dst h)
+    ∙ read-reads t (imageBytes s) (valid-accepted s v)
+    ∙ ap {B = ImageRead} (λ (u : FfState). record { answer = Accepted; state = u }) (read-written s v)
