@@ -6,3 +6,4 @@ pub mod Words
 pub mod Passes
 pub mod ValidAccepted
 pub mod RoundTrip
+pub mod AcceptedValid

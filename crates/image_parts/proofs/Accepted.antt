@@ -1,9 +1,10 @@
 -- What holds of an image that no reason refuses, in the terms of its parts.
 -- Assumes nothing.
 use Prim.Native.Nat.{ℕ, _+_, _-_, _*_, _≤_, _<_}
+use native.Mathlib.Nat.{zero-add}
 use native.Mathlib.Omega.{arith}
 use mathlib.Core.Path.{_≡_, sym}
-use mathlib.Core.Bool.{Bool, true, false, not, _&&_, _||_, true≢false}
+use mathlib.Core.Bool.{Bool, true, false, not, _&&_, _||_, true≢false, and-eq-true-iff}
 use mathlib.Core.List.{List}
 use lib.Dec.{eqb}
 use lib.ListN.{length, drop, replicate}
@@ -16,11 +17,11 @@ use Rattle.light_table.specs.Entry.{zeroEntry}
 use Rattle.light_table.specs.Overflow.{ascending}
 use Rattle.image_parts.specs.Entry.{entryAt}
 use Rattle.image_parts.specs.Lists.{listAt}
-use Rattle.image_parts.specs.Tests.{nanFree, lightsNanFree, entriesNanFree, ascends, flags, flagAt, zeros, bitsDefined, bitDefined, slotsDefault, slotDefault, defaultAt}
+use Rattle.image_parts.specs.Tests.{nanFree, lightsNanFree, plainLight, entriesNanFree, plainEntry, ascends, flags, flagAt, zeros, bitsDefined, bitDefined, slotsDefault, slotDefault, defaultAt}
 use Rattle.image_parts.specs.Reasons.{anotherLength, dirtyAbove63, zeroByteSet, indexAbove255, countAbove56, countOf, numbersRefused, notAscending, enableNotFlag, unusedNotZero, entriesRefused, enabledUndefined, undefinedNotDefault, slotsRefused, anotherNaN, refused}
 use Rattle.image_parts.proofs.Either.{first, rest}
 use Rattle.image_parts.proofs.Every.{every-holds}
-use Rattle.image_parts.proofs.Meaning.{default-is}
+use Rattle.image_parts.proofs.Meaning.{default-is, WrittenAsRead, floats-back}
 use Rattle.image_parts.proofs.Numbers.{few-entries}
 use Rattle.image_parts.proofs.Unused.{unused-entries}
 
@@ -35,7 +36,10 @@ pub record Accepted (bytes : List ℕ) : Type 0 where
   pub unused : drop (countOf bytes) (listAt entryAt 112 56 bytes 17_932) ≡ replicate (56 - countOf bytes) zeroEntry
   pub enabled-defined : (i : ℕ) → i < 8 → hasBit (numberAt 1 bytes 17_924) i ≡ true → hasBit (numberAt 1 bytes 17_925) i ≡ true
   pub undefined-default : (i : ℕ) → i < 8 → hasBit (numberAt 1 bytes 17_925) i ≡ false → lightAt bytes (17_092 + 104 * i) ≡ defaultLight
-  pub one-nan : (nanFree 4_273 bytes 0 && (lightsNanFree bytes 17_092 && entriesNanFree bytes 17_932)) ≡ true
+  -- "another NaN": each float of matrices and material, of the slots' lights and of all entries is written as it was read
+  pub floats : (k : ℕ) → k < 4_273 → WrittenAsRead bytes (4 * k)
+  pub light-floats : (i k : ℕ) → i < 8 → k < 25 → WrittenAsRead bytes (17_092 + 104 * i + 4 + 4 * k)
+  pub entry-floats : (i k : ℕ) → i < 56 → k < 25 → WrittenAsRead bytes (17_932 + 112 * i + 12 + 4 * k)
 
 -- the tests of a count and a list of bytes, over any count and place
 module _ (n : ℕ) (bytes : List ℕ) (at : ℕ) where
@@ -68,6 +72,15 @@ slots-are d bytes at room h i l off =
     default-is bytes (at + 104 * i) (omega arith)
     (or-here (hasBit d i) (defaultAt bytes (at + 104 * i)) (every-holds (slotDefault d bytes at) 8 (not-false (slotsDefault d bytes at) h) i l) off)
 
+module _ (bytes : List ℕ) (at : ℕ) where
+  light-floats-are : lightsNanFree bytes at ≡ true → (i k : ℕ) → i < 8 → k < 25 → WrittenAsRead bytes (at + 104 * i + 4 + 4 * k)
+  unfolding lightsNanFree
+  light-floats-are h i k l = floats-back 25 bytes (at + 104 * i + 4) (every-holds (plainLight bytes at) 8 h i l) k
+
+  entry-floats-are : entriesNanFree bytes at ≡ true → (i k : ℕ) → i < 56 → k < 25 → WrittenAsRead bytes (at + 112 * i + 12 + 4 * k)
+  unfolding entriesNanFree
+  entry-floats-are h i k l = floats-back 25 bytes (at + 112 * i + 12) (every-holds (plainEntry bytes at) 56 h i l) k
+
 pub accepted : (bytes : List ℕ) → refused bytes ≡ false → Accepted bytes
 unfolding refused numbersRefused entriesRefused slotsRefused anotherNaN
 accepted bytes h =
@@ -79,6 +92,10 @@ accepted bytes h =
     let h₃ = rest (entriesRefused bytes) (slotsRefused bytes || anotherNaN bytes) h₂ in
     let slots = first (slotsRefused bytes) _ h₃ in
     let nans = rest (slotsRefused bytes) (anotherNaN bytes) h₃ in
+    let plain =
+    and-eq-true-iff (nanFree 4_273 bytes 0) (lightsNanFree bytes 17_092 && entriesNanFree bytes 17_932) .0
+    (not-false (nanFree 4_273 bytes 0 && (lightsNanFree bytes 17_092 && entriesNanFree bytes 17_932)) nans) in
+    let plains = and-eq-true-iff (lightsNanFree bytes 17_092) (entriesNanFree bytes 17_932) .0 (plain .1) in
     let n₁ = rest (dirtyAbove63 bytes) (zeroByteSet bytes || (indexAbove255 bytes || countAbove56 bytes)) numbers in
     let n₂ = rest (zeroByteSet bytes) (indexAbove255 bytes || countAbove56 bytes) n₁ in
     let e₁ = rest (notAscending bytes) (enableNotFlag bytes || unusedNotZero bytes) entries in
@@ -94,5 +111,7 @@ accepted bytes h =
       unused = unused-entries (countOf bytes) bytes 17_932 few (omega arith) (not-false (zeros (6_272 - 112 * countOf bytes) bytes (17_932 + 112 * countOf bytes)) (rest (enableNotFlag bytes) (unusedNotZero bytes) e₁));
       enabled-defined = bits-are (numberAt 1 bytes 17_924) (numberAt 1 bytes 17_925) (first (enabledUndefined bytes) _ slots);
       undefined-default = slots-are (numberAt 1 bytes 17_925) bytes 17_092 (omega arith) (rest (enabledUndefined bytes) (undefinedNotDefault bytes) slots);
-      one-nan = not-false (nanFree 4_273 bytes 0 && (lightsNanFree bytes 17_092 && entriesNanFree bytes 17_932)) nans;
+      floats = λ (k : ℕ) (l : k < 4_273). rw zero-add at (floats-back 4_273 bytes 0 (plain .0) k l);
+      light-floats = light-floats-are bytes 17_092 (plains .0);
+      entry-floats = entry-floats-are bytes 17_932 (plains .1);
     }

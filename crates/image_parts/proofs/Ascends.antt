@@ -1,4 +1,4 @@
--- How a loop decides whether n entries ascend from 8: what is left of them is to ascend from one above the index before.
+-- How a loop decides whether n entries ascend: what is left of them is to ascend from one above the index before.
 -- Assumes nothing.
 use Prim.Native.Nat.{ℕ, suc, _+_, _-_, _*_, _≤_, _<_}
 use native.Mathlib.Nat.{sub-zero}
@@ -30,9 +30,8 @@ pub record Ascends (n : ℕ) (bytes : List ℕ) (at from i : ℕ) : Type 0 where
   pub is : ascending from (listAt entryAt 112 (n - i) bytes (at + 112 * i)) ≡ ascends n bytes at
 
 module _ (n : ℕ) (bytes : List ℕ) (at : ℕ) where
-  pub begins : Ascends n bytes at 8 0
-  unfolding ascends
-  begins = record { most = omega arith; is = let e : at + 112 * 0 ≡ at = omega arith in rw (sub-zero, e) }
+  pub begins : (from : ℕ) → ascending from (listAt entryAt 112 n bytes at) ≡ ascends n bytes at → Ascends n bytes at from 0
+  begins from h = record { most = omega arith; is = let e : at + 112 * 0 ≡ at = omega arith in rw (sub-zero, e) h }
 
   module _ (from i index : ℕ) (left : i < n) (read : index ≡ numberAt 4 bytes (at + 112 * i)) (f : Ascends n bytes at from i) where
     one-left : n - i ≡ suc (n - (i + 1))

@@ -1,6 +1,6 @@
 -- What the tests say of bytes that pass them: which light, which entries and which floats are read from them.
 -- Assumes nothing.
-use Prim.Native.Nat.{ℕ, _+_, _-_, _%_, _^_, _≤_, _<_}
+use Prim.Native.Nat.{ℕ, _+_, _*_, _%_, _^_, _≤_, _<_}
 use native.Mathlib.Omega.{arith}
 use mathlib.Core.Path.{_≡_, refl, sym, ap, subst, _∙_}
 use mathlib.Core.Bool.{Bool, true, false, not, _||_}
@@ -13,10 +13,12 @@ use lib.Seq.{length-take-le, getD-take, getD-drop, ext-getD}
 use borrow.Author.Tests.{eqb-true, leb-true}
 use Rattle.d3d9_types.specs.Light.{defaultLight, defaultLight-fits}
 use Rattle.float32.proofs.Nan.{below-is-no-nan}
+use Rattle.codec.specs.Float.{floatAt}
+use Rattle.codec.specs.Little.{numberAt}
 use Rattle.codec.specs.Light.{lightBytes, lightAt}
 use Rattle.codec.proofs.Inside.{Skips, Starts, inside}
 use Rattle.codec.proofs.Laws.Light.{length-lightBytes, lightAt-skips, lightAt-starts}
-use Rattle.image_parts.specs.Tests.{plainWord, same, sameByte, defaultAt}
+use Rattle.image_parts.specs.Tests.{plainWord, plainAt, nanFree, same, sameByte, defaultAt}
 use Rattle.image_parts.proofs.Every.{every-holds}
 
 module _ (ws bytes : List ℕ) (at : ℕ) (room : at + length ws ≤ length bytes) (h : same ws bytes at ≡ true) where
@@ -64,3 +66,11 @@ plain-back n small h = by-cases (leb (n % 0x8000_0000) 0x7F80_0000) refl h
     by-cases false e p =
         let is : n ≡ 0x7FC0_0000 = eqb-true n 0x7FC0_0000 p in
         ap (λ (k : ℕ). toBits binary32 (ofBits binary32 k)) is ∙ the-nan ∙ sym is
+
+-- the float there is written as it was read, if what stands there is bytes
+abbrev pub WrittenAsRead : List ℕ → ℕ → Type 0
+WrittenAsRead bytes at = numberAt 4 bytes at < 2 ^ 32 → toBits binary32 (floatAt bytes at) ≡ numberAt 4 bytes at
+
+pub floats-back : (n : ℕ) (bytes : List ℕ) (at : ℕ) → nanFree n bytes at ≡ true → (k : ℕ) → k < n → WrittenAsRead bytes (at + 4 * k)
+unfolding nanFree floatAt
+floats-back n bytes at h k l small = plain-back (numberAt 4 bytes (at + 4 * k)) small (every-holds (plainAt bytes at) n h k l)

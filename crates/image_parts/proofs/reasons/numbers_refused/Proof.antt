@@ -17,7 +17,7 @@ u8-at-requires c κs = search needs
 returns : tie.Need-returns
 unfolding numbersRefused
 returns c =
-    here _ _ (above 63 (c .before .u8-at .ensures) (c .if1 .taken))
+    here _ _ (above _ (c .before .u8-at .ensures) (c .if1 .taken))
 
 u8-at-requires-2 : tie.Need-u8-at-requires-2
 u8-at-requires-2 c κs = search needs
@@ -26,7 +26,7 @@ returns-2 : tie.Need-returns-2
 unfolding numbersRefused
 returns-2 c =
     let u = c .before .before in
-    next _ _ (not-above 63 (u .before .u8-at .ensures) (u .if1 .left)) (here _ _ (differs 0 (c .before .u8-at2 .ensures) (c .if2 .taken)))
+    next _ _ (not-above _ (u .before .u8-at .ensures) (u .if1 .left)) (here _ _ (differs _ (c .before .u8-at2 .ensures) (c .if2 .taken)))
 
 u16-at-requires : tie.Need-u16-at-requires
 u16-at-requires c κs = le-trans (lit≤ tt) (c .before .before .before .before .before .pre)
@@ -36,8 +36,8 @@ unfolding numbersRefused
 returns-3 c =
     let v = c .before .before in
     let u = v .before .before in
-    next _ _ (not-above 63 (u .before .u8-at .ensures) (u .if1 .left))
-    (next _ _ (differs-not 0 (v .before .u8-at2 .ensures) (v .if2 .left)) (here _ _ (above 255 (c .before .u16-at .ensures) (c .if3 .taken))))
+    next _ _ (not-above _ (u .before .u8-at .ensures) (u .if1 .left))
+    (next _ _ (differs-not _ (v .before .u8-at2 .ensures) (v .if2 .left)) (here _ _ (above _ (c .before .u16-at .ensures) (c .if3 .taken))))
 
 u16-at-requires-2 : tie.Need-u16-at-requires-2
 u16-at-requires-2 c κs = le-trans (lit≤ tt) (c .before .before .before .before .before .before .before .pre)
@@ -48,9 +48,9 @@ returns-4 c =
     let w = c .before in
     let v = w .before .before in
     let u = v .before .before in
-    next _ _ (not-above 63 (u .before .u8-at .ensures) (u .if1 .left))
-    (next _ _ (differs-not 0 (v .before .u8-at2 .ensures) (v .if2 .left))
-    (next _ _ (not-above 255 (w .before .u16-at .ensures) (w .if3 .left)) (ap (λ (n : ℕ). ltb 56 n) (c .u16-at2 .ensures))))
+    next _ _ (not-above _ (u .before .u8-at .ensures) (u .if1 .left))
+    (next _ _ (differs-not _ (v .before .u8-at2 .ensures) (v .if2 .left))
+    (next _ _ (not-above _ (w .before .u16-at .ensures) (w .if3 .left)) (ap (λ (n : ℕ). ltb _ n) (c .u16-at2 .ensures))))
 
 pub numbers-refused-spec : {M : Type 1} → statement M
 numbers-refused-spec =

@@ -2,7 +2,8 @@
 -- Assumes nothing.
 use Prim.Native.Nat.{_-_}
 use native.Mathlib.Omega.{arith}
-use mathlib.Core.Path.{_∙_}
+use mathlib.Core.Path.{refl, _∙_}
+use Rattle.image_parts.specs.Tests.{ascends}
 use Rattle.image_parts.proofs.Ascends.{Ascends, begins, goes-on, stops, ends}
 use Rattle.image_parts.proofs.tests.entries_ascending.Statement.{statement}
 use Rattle.image_parts.proofs.tests.entries_ascending.Tie as tie
@@ -14,7 +15,8 @@ abbrev μ-loop : tie.MeasureT-loop
 μ-loop s at n from₀ i₀ from i = n - i
 
 loop-holds : tie.Need-loop-holds Inv-loop μ-loop
-loop-holds c = begins _ _ _
+unfolding ascends
+loop-holds c = begins _ _ _ _ refl
 
 mul-u32-at : tie.Need-mul-u32-at Inv-loop μ-loop
 mul-u32-at c = omega arith

@@ -1,0 +1,111 @@
+-- What is read from bytes that are not refused is a valid state.
+-- Assumes nothing.
+use Prim.Native.Nat.{ℕ, _+_, _*_, _≤_, _<_, min}
+use native.Mathlib.Omega.{arith}
+use mathlib.Core.Path.{_≡_, sym, ap, subst, _∙_}
+use mathlib.Core.Bool.{true, false}
+use mathlib.Core.List.{List}
+use lib.ListN.{getD, take}
+use Rattle.d3d9_types.specs.Light.{defaultLight, lightFits}
+use Rattle.d3d9_types.specs.Matrix.{matrixFits}
+use Rattle.d3d9_types.specs.declared.light.D3DLIGHT9.{D3DLIGHT9}
+use Rattle.d3d9_types.specs.declared.matrix.D3DMATRIX.{D3DMATRIX}
+use Rattle.codec.specs.Little.{numberAt, Bytes}
+use Rattle.codec.specs.Matrix.{matrixAt}
+use Rattle.codec.specs.Light.{lightAt}
+use Rattle.codec.proofs.Laws.Little.{numberAt-lt}
+use Rattle.codec.proofs.Laws.Matrix.{matrixAt-fits}
+use Rattle.codec.proofs.Laws.Material.{materialAt-fits}
+use Rattle.codec.proofs.Laws.Light.{lightAt-fits}
+use Rattle.light_table.specs.Bits.{hasBit}
+use Rattle.light_table.specs.Entry.{zeroEntry}
+use Rattle.light_table.specs.Overflow.{usedCount, ascending}
+use Rattle.light_table.specs.declared.entry.OverflowLight.{OverflowLight}
+use Rattle.ff_state.specs.Overflow.{used}
+use Rattle.ff_state.specs.State.{noMatrix}
+use Rattle.ff_state.specs.Valid.{Valid, SlotsValid, OverflowValid, FloatsValid}
+use Rattle.image_parts.specs.Entry.{entryAt}
+use Rattle.image_parts.specs.Lists.{listAt}
+use Rattle.image_parts.specs.Masks.{setMask, typeMask, slotSet, slotIs}
+use Rattle.image_parts.specs.Reasons.{countOf, refused}
+use Rattle.image_parts.proofs.Accepted.{Accepted, accepted}
+use Rattle.image_parts.proofs.Items.{length-listAt, getD-listAt, take-listAt}
+use Rattle.image.specs.Read.{stateOf, lightsOf, definedOf}
+use Rattle.image_laws.proofs.Masks.{mask-lt, mask-has}
+
+-- what holds of each item of a list that is read holds of its entries
+listed : {A : Type 0} (P : A → Type 0) (read : List ℕ → ℕ → A) (size n : ℕ) (bytes : List ℕ) (at i : ℕ) (d : A) → i < n → P (read bytes (at + size * i))
+    → P (getD (listAt read size n bytes at) i d)
+listed P read size n bytes at i d l h = subst P (sym (getD-listAt read size n bytes at i d l)) h
+
+module _ (bytes : List ℕ) (b : Bytes bytes) (a : Accepted bytes) where
+  slots-valid : SlotsValid (stateOf bytes)
+  unfolding stateOf setMask typeMask
+  slots-valid =
+      let set = slotSet (definedOf bytes) (lightsOf bytes) in
+      let directional = slotIs 3 (definedOf bytes) (lightsOf bytes) in
+      let spot = slotIs 2 (definedOf bytes) (lightsOf bytes) in
+      record {
+        enabled-width = numberAt-lt 1 bytes 17_924 b;
+        set-width = mask-lt set 8;
+        defined-width = numberAt-lt 1 bytes 17_925 b;
+        directional-width = mask-lt directional 8;
+        spot-width = mask-lt spot 8;
+        enabled-defined = a .enabled-defined;
+        undefined-default =
+        λ (i : ℕ) (l : i < 8) (off : hasBit (definedOf bytes) i ≡ false).
+        listed (λ (x : D3DLIGHT9). x ≡ defaultLight) lightAt 104 8 bytes 17_092 i defaultLight l (a .undefined-default i l off);
+        set-mask = mask-has set 8;
+        directional-mask = mask-has directional 8;
+        spot-mask = mask-has spot 8;
+      }
+
+  overflow-valid : OverflowValid (stateOf bytes)
+  unfolding stateOf used usedCount entryAt
+  overflow-valid =
+      let all : min (countOf bytes) 56 ≡ countOf bytes = omega (arith, a .count) in
+      record {
+        count = a .count;
+        sorted = rw (all, take-listAt entryAt 112 (countOf bytes) 56 bytes 17_932 (a .count)) (a .sorted);
+        flags =
+        λ (k : ℕ) (l : k < countOf bytes).
+        listed (λ (e : OverflowLight). e .enabled ≤ 1) entryAt 112 56 bytes 17_932 k zeroEntry (omega (arith, a .count)) (a .enables k l);
+        indices =
+        λ (k : ℕ) (l : k < countOf bytes).
+        listed (λ (e : OverflowLight). e .index < 0x1_0000_0000) entryAt 112 56 bytes 17_932 k zeroEntry (omega (arith, a .count))
+        (numberAt-lt 4 bytes (17_932 + 112 * k) b);
+        unused = a .unused;
+      }
+
+  floats-valid : FloatsValid (stateOf bytes)
+  unfolding stateOf entryAt
+  floats-valid =
+      record {
+        view = matrixAt-fits bytes 0;
+        projection = matrixAt-fits bytes 64;
+        palette = λ (i : ℕ) (l : i < 256). listed matrixFits matrixAt 64 256 bytes 128 i noMatrix l (matrixAt-fits bytes (128 + 64 * i));
+        texture = λ (i : ℕ) (l : i < 8). listed matrixFits matrixAt 64 8 bytes 16_512 i noMatrix l (matrixAt-fits bytes (16_512 + 64 * i));
+        material = materialAt-fits bytes 17_024;
+        lights = λ (i : ℕ) (l : i < 8). listed lightFits lightAt 104 8 bytes 17_092 i defaultLight l (lightAt-fits bytes (17_092 + 104 * i) b);
+        overflow =
+        λ (k : ℕ) (l : k < 56).
+        listed (λ (e : OverflowLight). lightFits (e .light)) entryAt 112 56 bytes 17_932 k zeroEntry l (lightAt-fits bytes (17_932 + 112 * k + 8) b);
+      }
+
+  state-valid : Valid (stateOf bytes)
+  unfolding stateOf
+  state-valid =
+      record {
+        palette-length = length-listAt matrixAt 64 256 bytes 128;
+        texture-length = length-listAt matrixAt 64 8 bytes 16_512;
+        lights-length = length-listAt lightAt 104 8 bytes 17_092;
+        overflow-length = length-listAt entryAt 112 56 bytes 17_932;
+        high-water = a .index;
+        dirty = a .dirty;
+        slots = slots-valid;
+        overflow = overflow-valid;
+        floats = floats-valid;
+      }
+
+pub accepted-valid : (bytes : List ℕ) → Bytes bytes → refused bytes ≡ false → Valid (stateOf bytes)
+accepted-valid bytes b h = state-valid bytes b (accepted bytes h)
