@@ -2,15 +2,14 @@
 -- Assumes nothing.
 use Prim.Native.Nat.{ℕ, _+_, _*_, _≤_, _<_, min}
 use native.Mathlib.Omega.{arith}
-use mathlib.Core.Path.{_≡_, sym, ap, subst, _∙_}
-use mathlib.Core.Bool.{true, false}
+use mathlib.Core.Path.{_≡_, sym, subst}
+use mathlib.Core.Bool.{false}
 use mathlib.Core.List.{List}
-use lib.ListN.{getD, take}
+use lib.ListN.{getD}
 use Rattle.d3d9_types.specs.Light.{defaultLight, lightFits}
 use Rattle.d3d9_types.specs.Matrix.{matrixFits}
 use Rattle.d3d9_types.specs.declared.light.D3DLIGHT9.{D3DLIGHT9}
-use Rattle.d3d9_types.specs.declared.matrix.D3DMATRIX.{D3DMATRIX}
-use Rattle.codec.specs.Little.{numberAt, Bytes}
+use Rattle.codec.specs.Little.{Bytes}
 use Rattle.codec.specs.Matrix.{matrixAt}
 use Rattle.codec.specs.Light.{lightAt}
 use Rattle.codec.proofs.Laws.Little.{numberAt-lt}
@@ -19,7 +18,7 @@ use Rattle.codec.proofs.Laws.Material.{materialAt-fits}
 use Rattle.codec.proofs.Laws.Light.{lightAt-fits}
 use Rattle.light_table.specs.Bits.{hasBit}
 use Rattle.light_table.specs.Entry.{zeroEntry}
-use Rattle.light_table.specs.Overflow.{usedCount, ascending}
+use Rattle.light_table.specs.Overflow.{usedCount}
 use Rattle.light_table.specs.declared.entry.OverflowLight.{OverflowLight}
 use Rattle.ff_state.specs.Overflow.{used}
 use Rattle.ff_state.specs.State.{noMatrix}
@@ -53,8 +52,8 @@ module _ (bytes : List ℕ) (b : Bytes bytes) (a : Accepted bytes) where
         spot-width = mask-lt spot 8;
         enabled-defined = a .enabled-defined;
         undefined-default =
-        λ (i : ℕ) (l : i < 8) (off : hasBit (definedOf bytes) i ≡ false).
-        listed (λ (x : D3DLIGHT9). x ≡ defaultLight) lightAt 104 8 bytes 17_092 i defaultLight l (a .undefined-default i l off);
+            λ (i : ℕ) (l : i < 8) (off : hasBit (definedOf bytes) i ≡ false).
+            listed (λ (x : D3DLIGHT9). x ≡ defaultLight) lightAt 104 8 bytes 17_092 i defaultLight l (a .undefined-default i l off);
         set-mask = mask-has set 8;
         directional-mask = mask-has directional 8;
         spot-mask = mask-has spot 8;
@@ -68,12 +67,12 @@ module _ (bytes : List ℕ) (b : Bytes bytes) (a : Accepted bytes) where
         count = a .count;
         sorted = rw (all, take-listAt entryAt 112 (countOf bytes) 56 bytes 17_932 (a .count)) (a .sorted);
         flags =
-        λ (k : ℕ) (l : k < countOf bytes).
-        listed (λ (e : OverflowLight). e .enabled ≤ 1) entryAt 112 56 bytes 17_932 k zeroEntry (omega (arith, a .count)) (a .enables k l);
+            λ (k : ℕ) (l : k < countOf bytes).
+            listed (λ (e : OverflowLight). e .enabled ≤ 1) entryAt 112 56 bytes 17_932 k zeroEntry (omega (arith, a .count)) (a .enables k l);
         indices =
-        λ (k : ℕ) (l : k < countOf bytes).
-        listed (λ (e : OverflowLight). e .index < 0x1_0000_0000) entryAt 112 56 bytes 17_932 k zeroEntry (omega (arith, a .count))
-        (numberAt-lt 4 bytes (17_932 + 112 * k) b);
+            λ (k : ℕ) (l : k < countOf bytes).
+            listed (λ (e : OverflowLight). e .index < 0x1_0000_0000) entryAt 112 56 bytes 17_932 k zeroEntry (omega (arith, a .count))
+            (numberAt-lt 4 bytes (17_932 + 112 * k) b);
         unused = a .unused;
       }
 
@@ -88,8 +87,8 @@ module _ (bytes : List ℕ) (b : Bytes bytes) (a : Accepted bytes) where
         material = materialAt-fits bytes 17_024;
         lights = λ (i : ℕ) (l : i < 8). listed lightFits lightAt 104 8 bytes 17_092 i defaultLight l (lightAt-fits bytes (17_092 + 104 * i) b);
         overflow =
-        λ (k : ℕ) (l : k < 56).
-        listed (λ (e : OverflowLight). lightFits (e .light)) entryAt 112 56 bytes 17_932 k zeroEntry l (lightAt-fits bytes (17_932 + 112 * k + 8) b);
+            λ (k : ℕ) (l : k < 56).
+            listed (λ (e : OverflowLight). lightFits (e .light)) entryAt 112 56 bytes 17_932 k zeroEntry l (lightAt-fits bytes (17_932 + 112 * k + 8) b);
       }
 
   state-valid : Valid (stateOf bytes)

@@ -5,5 +5,8 @@ pub mod IsAt
 pub mod Words
 pub mod Passes
 pub mod ValidAccepted
-pub mod RoundTrip
 pub mod AcceptedValid
+pub mod Back
+pub mod WrittenRead
+pub mod RoundTrip
+pub mod Exactly

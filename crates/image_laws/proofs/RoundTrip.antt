@@ -1,4 +1,4 @@
--- The calls one after the other: a valid state that is written reads back, whatever stood in the destination and in the state before.
+-- The calls one after the other, whatever stood in the destination and in the state before: a valid state that is written reads back, and bytes that are accepted are written back.
 -- Assumes nothing.
 use Prim.Native.Nat.{ℕ}
 use mathlib.Core.Path.{_≡_, ap, _∙_}
@@ -6,6 +6,7 @@ use mathlib.Core.Bool.{false}
 use mathlib.Core.List.{List}
 use lib.ListN.{length}
 use borrow.Author.Tests.{eq-eqb}
+use Rattle.codec.specs.Little.{Bytes}
 use Rattle.ff_state.specs.Valid.{Valid}
 use Rattle.ff_state.specs.declared.state.FfState.{FfState}
 use Rattle.image_parts.specs.Reasons.{refused}
@@ -17,6 +18,7 @@ use Rattle.image.specs.declared.read.ReadAnswer.the-variants.{Accepted}
 use Rattle.image.specs.declared.write.WriteAnswer.the-variants.{Written}
 use Rattle.image_laws.proofs.ReadWritten.{read-written}
 use Rattle.image_laws.proofs.ValidAccepted.{valid-accepted}
+use Rattle.image_laws.proofs.WrittenRead.{written-read}
 
 pub write-writes : (s : FfState) (dst : List ℕ) → length dst ≡ 24_204 → writeImage s dst ≡ outcome Written (imageBytes s)
 unfolding writeImage
@@ -31,3 +33,10 @@ written-then-read s t dst v h =
     ap (λ (o : Outcome). readImage t (o .bytes)) (write-writes s dst h)
     ∙ read-reads t (imageBytes s) (valid-accepted s v)
     ∙ ap {B = ImageRead} (λ (u : FfState). record { answer = Accepted; state = u }) (read-written s v)
+
+pub read-then-written : (bytes : List ℕ) (t : FfState) (dst : List ℕ) → Bytes bytes → refused bytes ≡ false → length dst ≡ 24_204
+    → writeImage (readImage t bytes .state) dst ≡ outcome Written bytes
+read-then-written bytes t dst b h l =
+    ap (λ (r : ImageRead). writeImage (r .state) dst) (read-reads t bytes h)
+    ∙ write-writes (stateOf bytes) dst l
+    ∙ ap (outcome Written) (written-read bytes b h)
