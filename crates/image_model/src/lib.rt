@@ -1,0 +1,1 @@
+// No code: the abstract state that an image holds, said of its bytes alone.
