@@ -12,7 +12,6 @@ use Rattle.codec.specs.Light as Codec
 use Rattle.light_table.specs.Overflow.{usedCount}
 use Rattle.ff_state.specs.Overflow.{used}
 use Rattle.ff_state.specs.State.{noMatrix}
-use Rattle.ff_state.specs.declared.state.FfState.{FfState}
 use Rattle.d3d9_model.specs.State.{AbstractLight}
 use Rattle.image_parts.specs.Entry.{entryAt}
 use Rattle.image_parts.specs.Lists.{listAt}
@@ -20,7 +19,7 @@ use Rattle.image_parts.specs.Reasons.{countOf, refused}
 use Rattle.image_parts.proofs.Accepted.{accepted}
 use Rattle.image_parts.proofs.Items.{getD-listAt, take-listAt}
 use Rattle.image_model.specs.Abstract.{imageMatrix, slotDefined, slotLight, definedAmong, entryLight, imageLights, imageAbstract}
-use Rattle.image.specs.Read.{stateOf, readImage}
+use Rattle.image.specs.Read.{stateOf}
 use Rattle.agreement.specs.Agrees.{definedFrom, slotEntry, overflowEntry, stateLights, Agrees}
 
 -- ---- matrices by state number
@@ -93,8 +92,3 @@ module _ (bytes : List ℕ) where
         material = refl;
         lights = lights-are (accepted bytes h .count);
       }
-
--- in terms of the call: the state before does not matter
-pub read-agrees : (t : FfState) (bytes : List ℕ) → refused bytes ≡ false → Agrees (readImage t bytes .state) (imageAbstract bytes)
-unfolding readImage
-read-agrees t bytes h = rw h (image-agrees bytes h)

@@ -1,1 +1,2 @@
 pub mod ImageAgrees
+pub mod ReadIn

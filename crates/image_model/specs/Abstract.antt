@@ -14,7 +14,7 @@ use Rattle.light_table.specs.Bits.{hasBit}
 use Rattle.d3d9_model.specs.State.{AbstractState, AbstractLight}
 use Rattle.d3d9_model.specs.Lights.{lightAt}
 use Rattle.image_parts.specs.Lists.{listAt}
-use Rattle.image_parts.specs.Reasons.{countOf}
+use Rattle.image_parts.specs.Reasons.{countOf, refused}
 
 -- "view 0, projection 64, palette 128, texture 16,512", by state number: "state 2 view, 3 projection, 16 to 23 texture, 256 to 511 palette". No other number has a matrix; the fresh book's stands there.
 unfoldable pub imageMatrix : List ℕ → ℕ → D3DMATRIX
@@ -49,3 +49,10 @@ imageLights bytes =
 
 unfoldable pub imageAbstract : List ℕ → AbstractState
 imageAbstract bytes = record { matrix = imageMatrix bytes; material = materialAt bytes 17_024; lights = imageLights bytes }
+
+-- reading an image in: document 01's number, and the book afterwards. "An image read in replaces all"; a refused call leaves the book alone.
+unfoldable pub readRefusal : List ℕ → ℕ
+readRefusal bytes = cond (refused bytes) 9 0
+
+unfoldable pub abstractRead : AbstractState → List ℕ → AbstractState
+abstractRead a bytes = cond (refused bytes) a (imageAbstract bytes)
