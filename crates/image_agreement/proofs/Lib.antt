@@ -1,2 +1,4 @@
 pub mod ImageAgrees
 pub mod ReadIn
+pub mod Refused
+pub mod OnImage
