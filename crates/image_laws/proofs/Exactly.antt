@@ -9,8 +9,10 @@ use mathlib.Core.List.{List, [], _∷_, _++_}
 use Rattle.codec.specs.Little.{littleBytes, Bytes}
 use Rattle.codec.specs.Matrix.{matrixBytes}
 use Rattle.codec.specs.Light.{lightBytes}
+use Rattle.codec.specs.Material.{materialBytes}
 use Rattle.ff_state.specs.declared.state.FfState.{FfState}
 use Rattle.d3d9_types.specs.declared.light.D3DLIGHT9.{D3DLIGHT9}
+use Rattle.d3d9_types.specs.declared.material.D3DMATERIAL9.{D3DMATERIAL9}
 use Rattle.d3d9_types.specs.declared.matrix.D3DMATRIX.{D3DMATRIX}
 use Rattle.light_table.specs.declared.entry.OverflowLight.{OverflowLight}
 use Rattle.image_parts.specs.Entry.{entryBytes}
@@ -20,6 +22,7 @@ use Rattle.image.specs.Format.{imageBytes, imageTable}
 use Rattle.image.specs.Read.{stateOf}
 use Rattle.image.specs.Table.{Field, tableBytes}
 use Rattle.image_laws.specs.Exactly.{IsAccepted, IsWriting}
+use Rattle.image_laws.proofs.IsAt.{_also_}
 use Rattle.image_laws.proofs.Words.{wordBytes, matrix-words, material-words, light-words, entry-words}
 use Rattle.image_laws.proofs.ReadWritten.{read-written}
 use Rattle.image_laws.proofs.ValidAccepted.{valid-accepted}
@@ -50,6 +53,9 @@ words-are ns = list-are (littleBytes 4) (little-are 4) ns
 matrix-are : (m : D3DMATRIX) → Bytes (matrixBytes m)
 matrix-are m = rw (matrix-words m) (words-are _)
 
+material-are : (m : D3DMATERIAL9) → Bytes (materialBytes m)
+material-are m = rw (material-words m) (words-are _)
+
 light-are : (l : D3DLIGHT9) → Bytes (lightBytes l)
 light-are l = rw (light-words l) (words-are _)
 
@@ -68,43 +74,21 @@ table-are (f ∷ fs) h = both-are (f .bytes) (tableBytes fs) (h .0) (table-are f
 pub image-bytes : (s : FfState) → Bytes (imageBytes s)
 unfolding imageBytes imageTable
 image-bytes s =
-    table-are (imageTable s) (
-      matrix-are (s .view),
-      (
-        matrix-are (s .projection),
-        (
-          list-are matrixBytes matrix-are (s .«world_palette»),
-          (
-            list-are matrixBytes matrix-are (s .«texture_transforms»),
-            (
-              rw (material-words (s .material)) (words-are _),
-              (
-                list-are lightBytes light-are (s .lights),
-                (
-                  little-are 1 (s .«light_enabled»),
-                  (
-                    little-are 1 (s .«light_defined_mask»),
-                    (
-                      little-are 1 (s .«ff_vs_dirty»),
-                      (
-                        little-are 1 0,
-                        (
-                          little-are 2 (s .«world_palette_high_water»),
-                          (
-                            little-are 2 (s .«overflow_count»),
-                            (list-are entryBytes entry-are (s .«overflow_lights»), tt),
-                          ),
-                        ),
-                      ),
-                    ),
-                  ),
-                ),
-              ),
-            ),
-          ),
-        ),
-      ),
-    )
+    table-are (imageTable s)
+    (matrix-are (s .view)
+    also matrix-are (s .projection)
+    also list-are matrixBytes matrix-are (s .«world_palette»)
+    also list-are matrixBytes matrix-are (s .«texture_transforms»)
+    also material-are (s .material)
+    also list-are lightBytes light-are (s .lights)
+    also little-are 1 (s .«light_enabled»)
+    also little-are 1 (s .«light_defined_mask»)
+    also little-are 1 (s .«ff_vs_dirty»)
+    also little-are 1 0
+    also little-are 2 (s .«world_palette_high_water»)
+    also little-are 2 (s .«overflow_count»)
+    also list-are entryBytes entry-are (s .«overflow_lights»)
+    also tt)
 
 -- ---- both directions
 

@@ -94,6 +94,11 @@ module _ (k : ℕ) (bytes : List ℕ) (at : ℕ) where
 
 -- ---- a table
 
+-- one proof more before the others, for chains of pairs
+infixr 4 _also_
+pub _also_ : {A B : Type 0} → A → B → A × B
+a also b = (a, b)
+
 abbrev pub AllAt : List ℕ → List Field → Type 0
 AllAt bytes [] = Unit
 AllAt bytes (f ∷ fs) = IsAt (f .bytes) bytes (f .place) × AllAt bytes fs

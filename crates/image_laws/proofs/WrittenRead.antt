@@ -21,7 +21,7 @@ use Rattle.image_parts.proofs.Entry.{length-entryBytes}
 use Rattle.image.specs.Format.{imageBytes, imageTable, imageLength}
 use Rattle.image.specs.Read.{stateOf}
 use Rattle.image.proofs.Format.{image-tiles, length-imageBytes, valid-sized}
-use Rattle.image_laws.proofs.IsAt.{IsAt, AllAt, list-is, number-is, table-is}
+use Rattle.image_laws.proofs.IsAt.{IsAt, AllAt, _also_, list-is, number-is, table-is}
 use Rattle.image_laws.proofs.Back.{FloatsBack, matrix-back, material-back, light-back, entry-back}
 use Rattle.image_laws.proofs.AcceptedValid.{accepted-valid}
 
@@ -54,43 +54,21 @@ module _ (bytes : List ℕ) (b : Bytes bytes) (a : Accepted bytes) where
 
   fields-are : AllAt bytes (imageTable (stateOf bytes))
   unfolding imageTable stateOf
-  fields-are = (
-    matrix-is 0 0 (omega arith) (lit≤ tt),
-    (
-      matrix-is 16 64 (omega arith) (lit≤ tt),
-      (
-        matrices-are 32 256 128 (omega arith) (lit≤ tt),
-        (
-          matrices-are 4_128 8 16_512 (omega arith) (lit≤ tt),
-          (
-            material-back bytes b 17_024 (rw (a .long) (lit≤ tt)) (floats-from 4_256 17 17_024 (omega arith) (lit≤ tt)),
-            (
-              lights-are,
-              (
-                number-at 1 17_924 (lit≤ tt),
-                (
-                  number-at 1 17_925 (lit≤ tt),
-                  (
-                    number-at 1 17_926 (lit≤ tt),
-                    (
-                      rw (a .zero) at (number-at 1 17_927 (lit≤ tt)),
-                      (
-                        number-at 2 17_928 (lit≤ tt),
-                        (
-                          number-at 2 17_930 (lit≤ tt),
-                          (entries-are, tt),
-                        ),
-                      ),
-                    ),
-                  ),
-                ),
-              ),
-            ),
-          ),
-        ),
-      ),
-    ),
-  )
+  fields-are =
+      matrix-is 0 0 (omega arith) (lit≤ tt)
+      also matrix-is 16 64 (omega arith) (lit≤ tt)
+      also matrices-are 32 256 128 (omega arith) (lit≤ tt)
+      also matrices-are 4_128 8 16_512 (omega arith) (lit≤ tt)
+      also material-back bytes b 17_024 (rw (a .long) (lit≤ tt)) (floats-from 4_256 17 17_024 (omega arith) (lit≤ tt))
+      also lights-are
+      also number-at 1 17_924 (lit≤ tt)
+      also number-at 1 17_925 (lit≤ tt)
+      also number-at 1 17_926 (lit≤ tt)
+      also (rw (a .zero) at (number-at 1 17_927 (lit≤ tt)))
+      also number-at 2 17_928 (lit≤ tt)
+      also number-at 2 17_930 (lit≤ tt)
+      also entries-are
+      also tt
 
 pub written-read : (bytes : List ℕ) → Bytes bytes → refused bytes ≡ false → imageBytes (stateOf bytes) ≡ bytes
 unfolding imageBytes
