@@ -4,7 +4,7 @@ use Prim.Native.Nat.{ℕ, zero, suc, _+_, _≤_, _<_}
 use native.Mathlib.Numerals.{add-one}
 use native.Mathlib.Omega.{arith}
 use mathlib.Core.Path.{_≡_, refl, sym, ap, _∙_}
-use mathlib.Core.Bool.{Bool, true, false, and-eq-true-iff, true≢false}
+use mathlib.Core.Bool.{Bool, true, false, _&&_, and-eq-true-iff, true≢false}
 use borrow.Author.Count.{below-more}
 use Rattle.image_parts.specs.Every.{every}
 
@@ -54,3 +54,35 @@ module _ (p : ℕ → Bool) (n : ℕ) where
 
   pub stops : (i : ℕ) → i < n → p i ≡ false → false ≡ every n p
   stops i h e = sym (every-fails p n i h e)
+
+and-true : (b : Bool) → (b && true) ≡ b
+and-true true = refl
+and-true false = refl
+
+and-false : (b : Bool) → (b && false) ≡ false
+and-false true = refl
+and-false false = refl
+
+-- what holds at the head of a loop that looks at all numbers below n, when those below i were looked at
+pub record Looked (p : ℕ → Bool) (n i : ℕ) (so : Bool) : Type 0 where
+  pub most : i ≤ n
+  pub all : so ≡ every i p
+
+module _ (p : ℕ → Bool) (n : ℕ) where
+  pub looks : Looked p n 0 true
+  unfolding every
+  looks = record { most = omega arith; all = refl }
+
+  module _ (i : ℕ) (h : i < n) (so b : Bool) (f : Looked p n i so) where
+    pub looked-on : p i ≡ true → b ≡ so → Looked p n (i + 1) b
+    unfolding every
+    looked-on e q = record { most = omega arith; all = rw (add-one, e) (q ∙ f .all ∙ sym (and-true (every i p))) }
+
+    pub looked-off : p i ≡ false → b ≡ false → Looked p n (i + 1) b
+    unfolding every
+    looked-off e q = record { most = omega arith; all = rw (add-one, e) (q ∙ sym (and-false (every i p))) }
+
+  pub looked-all : (i : ℕ) (so : Bool) → n ≤ i → Looked p n i so → so ≡ every n p
+  looked-all i so h f =
+      let e : i ≡ n = omega (arith, f .most) in
+      f .all ∙ ap (λ (k : ℕ). every k p) e

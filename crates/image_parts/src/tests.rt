@@ -17,18 +17,20 @@ fn plain_word(n: u32) -> bool
     n == 0x7FC0_0000
 }
 
+// This loop and that of zeros_at look at all, so that several are looked at in one instruction.
 pub fn nan_free(s: &[u8], at: usize, n: usize) -> bool
     requires { ⌜ at + 4 * n ≤ length (now s) ⌝ }
     ensures { λ r. ⌜ r ≡ nanFree n (now (s .entry)) at ⌝ }
 {
     let mut i = 0usize;
+    let mut all = true;
     while i < n {
         if !plain_word(u32_at(s, at + 4 * i)) {
-            return false;
+            all = false;
         }
         i = i + 1;
     }
-    true
+    all
 }
 
 pub fn lights_nan_free(s: &[u8], at: usize) -> bool
@@ -64,13 +66,14 @@ pub fn zeros_at(s: &[u8], at: usize, n: usize) -> bool
     ensures { λ r. ⌜ r ≡ zeros n (now (s .entry)) at ⌝ }
 {
     let mut i = 0usize;
+    let mut all = true;
     while i < n {
         if s[at + i] != 0 {
-            return false;
+            all = false;
         }
         i = i + 1;
     }
-    true
+    all
 }
 
 pub fn flags_ok(s: &[u8], at: usize, n: usize) -> bool

@@ -1,21 +1,22 @@
--- `image_parts::tests::nan_free` meets its contract. The invariant: the words before i passed, as `Passed` says. The measure is the words left.
+-- `image_parts::tests::nan_free` meets its contract. The invariant: `all` says whether the words before i passed, as `Looked` has it. The measure is the words left.
 -- Assumes nothing.
 use Prim.Native.Nat.{_-_}
 use native.Mathlib.Omega.{arith}
+use mathlib.Core.Logic.{⊎-elim}
 use borrow.Author.Tests.{not-true, not-false}
 use Rattle.image_parts.specs.Tests.{nanFree, plainAt}
-use Rattle.image_parts.proofs.Every.{Passed, begins, goes-on, ends, stops}
+use Rattle.image_parts.proofs.Every.{Looked, looks, looked-on, looked-off, looked-all}
 use Rattle.image_parts.proofs.tests.nan_free.Statement.{statement}
 use Rattle.image_parts.proofs.tests.nan_free.Tie as tie
 
 abbrev Inv-loop : tie.InvT-loop
-Inv-loop s at n i₀ i = Passed (plainAt s at) n i
+Inv-loop s at n i₀ all₀ i all = Looked (plainAt s at) n i all
 
 abbrev μ-loop : tie.MeasureT-loop
-μ-loop s at n i₀ i = n - i
+μ-loop s at n i₀ all₀ i all = n - i
 
 loop-holds : tie.Need-loop-holds Inv-loop μ-loop
-loop-holds c = begins _ _
+loop-holds c = looks _ _
 
 mul-u32-at : tie.Need-mul-u32-at Inv-loop μ-loop
 mul-u32-at c = omega arith
@@ -29,10 +30,6 @@ u32-at-requires c κs = omega arith
 plain-word-requires : tie.Need-plain-word-requires Inv-loop μ-loop
 plain-word-requires c κs = tt
 
-returns : tie.Need-returns Inv-loop μ-loop
-unfolding nanFree
-returns c = stops _ _ (c .before .before .before .before .loop .i) (c .before .before .before .loop-test .taken) (rw (← c .before .before .u32-at .ensures, ← c .before .plain-word .ensures) (not-true _ (c .if1 .taken)))
-
 add-i : tie.Need-add-i Inv-loop μ-loop
 add-i c = omega arith
 
@@ -40,11 +37,17 @@ loop-less : tie.Need-loop-less Inv-loop μ-loop
 loop-less c = omega arith
 
 loop-again : tie.Need-loop-again Inv-loop μ-loop
-loop-again c = goes-on _ _ (c .before .before .before .before .loop .i) (c .before .before .before .loop-test .taken) (rw (← c .before .before .u32-at .ensures, ← c .before .plain-word .ensures) (not-false _ (c .if1 .left))) (c .before .before .before .before .loop .inv)
+loop-again c =
+    let l = c .before .before .before .before .loop in
+    let t = c .before .before .before .loop-test .taken in
+    ⊎-elim
+    (λ w. looked-off _ _ (l .i) t _ _ (l .inv) (rw (← c .before .before .u32-at .ensures, ← c .before .plain-word .ensures) (not-true _ (w .0 .taken))) (w .1))
+    (λ w. looked-on _ _ (l .i) t _ _ (l .inv) (rw (← c .before .before .u32-at .ensures, ← c .before .plain-word .ensures) (not-false _ (w .0 .left))) (w .1))
+    (c .if1 .came)
 
-returns-2 : tie.Need-returns-2 Inv-loop μ-loop
+returns : tie.Need-returns Inv-loop μ-loop
 unfolding nanFree
-returns-2 c = ends _ _ (c .before .loop .i) (c .loop-test .left) (c .before .loop .inv)
+returns c = looked-all _ _ (c .before .loop .i) _ (c .loop-test .left) (c .before .loop .inv)
 
 pub nan-free-spec : {M : Type 1} → statement M
 nan-free-spec =
@@ -57,8 +60,7 @@ nan-free-spec =
     add-u32-at
     u32-at-requires
     plain-word-requires
-    returns
     add-i
     loop-less
     loop-again
-    returns-2)
+    returns)
