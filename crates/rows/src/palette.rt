@@ -1,0 +1,24 @@
+// The world matrices of the palette, each times the view.
+ghost use mathlib.Core.Path.{_≡_};
+ghost use Prim.Native.Nat.{_*_, _≤_};
+ghost use lib.ListN.{length, take};
+ghost use Rattle.rows.specs.Rows.{floats};
+ghost use Rattle.rows.specs.Matrices.{paletteRows};
+use crate::write::write_matrix;
+use d3d9_types::D3DMATRIX;
+use matrix::mat_mul;
+use matrix::transpose;
+
+// The first n matrices.
+pub fn write_palette(dst: &mut [f32], view: D3DMATRIX, palette: [D3DMATRIX; 256], n: usize)
+    requires { ⌜ (n ≤ 256) × (length (now dst) ≡ 16 * n) ⌝ }
+    ensures { λ _. ⌜ now (dst .exit) ≡ floats (paletteRows view (take n palette)) ⌝ }
+{
+    let mut i = 0usize;
+    let mut at = 0usize;
+    while i < n {
+        write_matrix(dst, at, transpose(mat_mul(palette[i], view)));
+        i = i + 1;
+        at = at + 16;
+    }
+}
