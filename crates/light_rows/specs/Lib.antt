@@ -1,0 +1,4 @@
+pub mod Floor
+pub mod Direction
+pub mod Cone
+pub mod Light
