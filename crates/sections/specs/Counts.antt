@@ -1,0 +1,27 @@
+-- Rows of each section under a key. Document 01, 'Rows of a section'; ff_state.rs 451–468, 1960–2000.
+use Prim.Native.Nat.{ℕ, _-_, _*_}
+use mathlib.Core.Bool.{cond}
+use lib.Count.{leadingZeros}
+use lib.Dec.{eqb}
+use Rattle.sections.specs.declared.key.FfVsKey.{FfVsKey}
+
+-- "8 minus the mask's leading zeros"
+unfoldable pub places : ℕ → ℕ
+places mask = 8 - leadingZeros 8 mask
+
+-- diffuse alone when unlit; four colours; the power too if specular
+unfoldable pub materialCount : FfVsKey → ℕ
+materialCount k = cond (k .«lighting_enabled») (cond (k .«specular_enable») 5 4) 1
+
+unfoldable pub lightCount : FfVsKey → ℕ
+lightCount k = places (k .«light_active_mask») * 6
+
+-- "count 0 gives 0; indexed gives 40; otherwise the count, up to 255"
+unfoldable pub paletteMatrices : FfVsKey → ℕ
+paletteMatrices k = cond (eqb (k .«vertex_blend_count») 0) 0 (cond (k .«vertex_blend_indexed») 40 (k .«vertex_blend_count»))
+
+unfoldable pub paletteCount : FfVsKey → ℕ
+paletteCount k = paletteMatrices k * 4
+
+unfoldable pub textureCount : ℕ → ℕ
+textureCount mask = places mask * 4

@@ -1,0 +1,4 @@
+pub mod Key
+pub mod Counts
+pub mod Shape
+pub mod RowCount

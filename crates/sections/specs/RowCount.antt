@@ -1,0 +1,22 @@
+-- The number of rows that a draw reads (ff_state.rs 1640–1697), each part one past the last row that the Rust gives it. A fog row, 8, is never the last: the material's begin at 10.
+use Prim.Native.Nat.{ℕ, _+_, max}
+use mathlib.Core.Bool.{cond}
+use lib.Dec.{eqb}
+use Rattle.sections.specs.Counts.{lightCount, paletteCount, textureCount}
+use Rattle.sections.specs.declared.key.FfVsKey.{FfVsKey}
+
+-- unlit up to row 10; lit up to row 13, or 14 if specular; a lit light's rows lie beyond both
+unfoldable pub lightingReach : FfVsKey → ℕ
+lightingReach k =
+    cond (k .«lighting_enabled»)
+    (cond (eqb (k .«light_active_mask») 0) (cond (k .«specular_enable») 15 14) (15 + lightCount k))
+    11
+
+unfoldable pub textureReach : ℕ → ℕ
+textureReach mask = cond (eqb mask 0) 0 (63 + textureCount mask)
+
+unfoldable pub paletteReach : FfVsKey → ℕ
+paletteReach k = cond (eqb (k .«vertex_blend_count») 0) 0 (95 + paletteCount k)
+
+unfoldable pub ffVsRowCount : FfVsKey → ℕ → ℕ
+ffVsRowCount k t = cond (k .«has_rhw») 1 (max (max (lightingReach k) (textureReach t)) (paletteReach k))
