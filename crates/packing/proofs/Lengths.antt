@@ -1,0 +1,81 @@
+-- A section's packed rows are as many as the table says, whenever its mask is accepted. Assumes nothing.
+use Prim.Native.Nat.{ℕ, _-_, _*_, _^_, _≤_, _<_}
+use native.Mathlib.Nat.{mul-comm}
+use native.Mathlib.Omega.{arith}
+use mathlib.Core.Path.{_≡_, refl, ap, _∙_}
+use mathlib.Core.Bool.{Bool, true, false, cond, _||_}
+use mathlib.Core.List.{[]}
+use lib.Count.{leadingZeros, leading-unique, leading-of-zero}
+use lib.Dec.{eqb}
+use lib.ListN.{length, take}
+use lib.Pow.{pow-pos}
+use lib.Seq.{length-take-le}
+use borrow.Author.Tests.{eqb-true}
+use Rattle.d3d9_types.specs.declared.material.D3DMATERIAL9.{D3DMATERIAL9}
+use Rattle.light_table.specs.Active.{lowBits, masksOf}
+use Rattle.ff_state.specs.declared.sections.Section.{Section}
+use Rattle.ff_state.specs.declared.sections.Section.the-variants.{Wv, Proj, Material, Lights, Palette, Tt}
+use Rattle.rows.specs.Rows.{floats}
+use Rattle.rows.specs.Matrices.{projectionRows, worldViewRows, paletteRows}
+use Rattle.rows.specs.Material.{materialRows}
+use Rattle.rows.proofs.Floats.{length-floats, length-rowsOf}
+use Rattle.light_rows.specs.Light.{lightRows, sixRows, lightsRows}
+use Rattle.sections.specs.Counts.{places, materialCount, lightCount, paletteMatrices, paletteCount, textureCount}
+use Rattle.sections.specs.Key.{noTextures}
+use Rattle.sections.specs.Shape.{sectionShape, sectionRows}
+use Rattle.sections.specs.declared.key.FfVsKey.{FfVsKey}
+use Rattle.sections.proofs.Bounds.{matrices-most}
+use Rattle.packing.specs.Inputs.{Inputs, packedRows, maskAccepted}
+
+-- the n lowest bits take n places
+pub places-low : (n : ℕ) → n ≤ 8 → places (lowBits n) ≡ n
+unfolding places lowBits
+places-low n h =
+    let some : 0 < 2 ^ n = pow-pos n in
+    let e : 8 - n ≡ leadingZeros 8 (2 ^ n - 1) = leading-unique 8 (2 ^ n - 1) (8 - n) n (omega arith) (omega arith) (omega arith) in
+    omega (arith, e)
+
+pub places-none : places 0 ≡ 0
+unfolding places
+places-none = ap (λ (n : ℕ). 8 - n) (leading-of-zero 8)
+
+pub material-rows : (l sp : Bool) (m : D3DMATERIAL9) → length (materialRows l sp m) ≡ cond l (cond sp 5 4) 1
+unfolding materialRows
+material-rows true true m = refl
+material-rows true false m = refl
+material-rows false sp m = refl
+
+-- what the key and the inputs have to be: u8 numbers, 256 world matrices, eight lights at most
+pub record Sized (k : FfVsKey) (i : Inputs) : Type 0 where
+  pub count : k .«vertex_blend_count» < 256
+  pub palette : length (i .palette) ≡ 256
+  pub lights : length (i .lights) ≤ 8
+
+module _ (k : FfVsKey) (i : Inputs) (z : Sized k i) where
+  pub lights-length : k .«light_active_mask» ≡ lowBits (length (i .lights)) → 6 * length (i .lights) ≡ lightCount k
+  unfolding lightCount
+  lights-length e = rw (e, places-low (length (i .lights)) (z .lights)) (mul-comm 6 (length (i .lights)))
+
+  lights-rows : (none : Bool) → eqb (k .«light_active_mask») 0 ≡ none → (none || eqb (k .«light_active_mask») (masksOf (i .lights) .active)) ≡ true
+      → length (cond none [] (lightsRows (i .view) (i .lights))) ≡ lightCount k
+  unfolding lightCount lightsRows masksOf
+  lights-rows true e m = rw (eqb-true (k .«light_active_mask») 0 e, places-none)
+  lights-rows false e m =
+      length-rowsOf (λ l. sixRows (lightRows (i .view) l)) 6 (λ l. refl) (i .lights)
+      ∙ lights-length (eqb-true (k .«light_active_mask») (lowBits (length (i .lights))) m)
+
+  pub rows-length : (σ : Section) → maskAccepted σ k i ≡ true → length (packedRows σ k i) ≡ sectionRows σ k noTextures
+  unfolding packedRows maskAccepted sectionShape worldViewRows projectionRows materialCount paletteRows paletteCount textureCount
+  rows-length Wv m = refl
+  rows-length Proj m = refl
+  rows-length Material m = material-rows (k .«lighting_enabled») (k .«specular_enable») (i .material)
+  rows-length Lights m = lights-rows (eqb (k .«light_active_mask») 0) refl m
+  rows-length Palette m =
+      length-rowsOf (worldViewRows (i .view)) 4 (λ w. refl) (take (paletteMatrices k) (i .palette))
+      ∙ ap (λ (n : ℕ). 4 * n) (length-take-le (paletteMatrices k) (i .palette) (omega (arith, matrices-most k (z .count), z .palette)))
+      ∙ mul-comm 4 (paletteMatrices k)
+  rows-length Tt m = rw places-none
+
+  -- "4 times the section's rows"
+  pub floats-length : (σ : Section) → maskAccepted σ k i ≡ true → length (floats (packedRows σ k i)) ≡ 4 * sectionRows σ k noTextures
+  floats-length σ m = length-floats (packedRows σ k i) ∙ ap (λ (n : ℕ). 4 * n) (rows-length σ m)

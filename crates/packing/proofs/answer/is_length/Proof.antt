@@ -1,0 +1,24 @@
+-- `packing::answer::is_length` meets its contract: the rows are the table's.
+-- Assumes nothing.
+use Prim.Native.Nat.{_*_}
+use mathlib.Core.Path.{ap}
+use lib.Dec.{eqb}
+use Rattle.sections.specs.declared.shape.SectionShape.{SectionShape}
+use borrow.Author.Needs.{needs}
+use Rattle.packing.proofs.answer.is_length.Statement.{statement}
+use Rattle.packing.proofs.answer.is_length.Tie as tie
+
+section-shape-requires : tie.Need-section-shape-requires
+section-shape-requires c κs = search needs
+
+cast-result : tie.Need-cast-result
+cast-result c = search needs
+
+mul-result : tie.Need-mul-result
+mul-result c = search needs
+
+returns : tie.Need-returns
+returns c = ap (λ (r : SectionShape). eqb (c .before .before .args .length) (4 * r .rows)) (c .before .section-shape .ensures)
+
+pub is-length-spec : {M : Type 1} → statement M
+is-length-spec = tie.close (tie.spec section-shape-requires cast-result mul-result returns)

@@ -1,0 +1,132 @@
+-- `packing::lights::fill_lights_section` meets its contract. The length is tested first. A mask of 0 packs nothing; the mask of n lights has n places, so that the rows of the resolved list fill the destination.
+-- Assumes nothing.
+use Prim.Native.Nat.{ℕ, _*_, _≤_}
+use native.Mathlib.Omega.{arith}
+use mathlib.Core.Path.{_≡_, sym, ap, subst, _∙_}
+use mathlib.Core.Bool.{true}
+use mathlib.Core.List.{List}
+use lib.Ieee.{Float}
+use lib.ListN.{length, take}
+use borrow.Author.Tests.{not-true, not-false}
+use Rattle.d3d9_types.specs.declared.light.D3DLIGHT9.{D3DLIGHT9}
+use Rattle.light_table.specs.Active.{listed}
+use Rattle.light_table.specs.declared.active.ActiveLights.{ActiveLights}
+use Rattle.light_table.proofs.Compaction.{listed-len, listed-front}
+use Rattle.ff_state.specs.Active.{activeLights, resolveActiveLights}
+use Rattle.ff_state.specs.declared.sections.Section.the-variants.{Lights}
+use Rattle.rows.specs.Rows.{floats}
+use Rattle.light_rows.specs.Light.{lightsRows}
+use Rattle.sections.specs.Counts.{places, lightCount}
+use Rattle.sections.specs.Shape.{sectionShape}
+use Rattle.packing.specs.Inputs.{maskAccepted, inputsOf}
+use Rattle.packing.specs.Pack.{outcome, stateRows, packSection}
+use Rattle.packing.specs.declared.answer.PackAnswer.the-variants.{Packed}
+use Rattle.packing.proofs.Lengths.{places-low}
+use Rattle.packing.proofs.Outcomes.{another-length, its-length, another-mask, packs}
+use Rattle.packing.proofs.LightMask.{none-accepted, none-packed, its-accepted, another-refused, some-packed}
+use borrow.Author.Needs.{needs}
+use Rattle.packing.proofs.lights.fill_lights_section.Statement.{statement}
+use Rattle.packing.proofs.lights.fill_lights_section.Tie as tie
+
+-- what the test of the length showed
+ok : (c : tie.Else1) → c .before .is-length .result ≡ true
+ok c = not-false (c .before .is-length .result) (c .if1 .left)
+
+long : (c : tie.Else1) → length (c .before .before .before .args .dst .now) ≡ 4 * lightCount (c .before .before .before .args .key)
+unfolding sectionShape
+long c =
+    let a = c .before .before .before .args in
+    its-length Lights (a .s) (a .key) (a .dst .now) _ (c .before .is-length .ensures) (ok c)
+
+-- rows that stand there under an accepted mask are the outcome
+done : (c : tie.Else1) → maskAccepted Lights (c .before .before .before .args .key) (inputsOf (c .before .before .before .args .s)) ≡ true
+    → (xs : List Float) → xs ≡ stateRows Lights (c .before .before .before .args .s) (c .before .before .before .args .key)
+    → outcome Packed xs ≡ packSection Lights (c .before .before .before .args .s) (c .before .before .before .args .key) (c .before .before .before .args .dst .now)
+done c m xs is =
+    let a = c .before .before .before .args in
+    packs Lights (a .s) (a .key) (a .dst .now) _ (c .before .is-length .ensures) (ok c) m xs is
+
+-- the resolved list: at most eight lights, which stand in front
+few : (c : tie.After-resolve-active-lights) → c .resolve-active-lights .result .len ≤ 8
+unfolding resolveActiveLights
+few c = subst (λ (l : ActiveLights). l .len ≤ 8) (sym (c .resolve-active-lights .ensures)) (listed-len (activeLights (c .before .before .before .before .before .args .s)))
+
+front : (c : tie.After-resolve-active-lights) → take (c .resolve-active-lights .result .len) (c .resolve-active-lights .result .lights) ≡ take 8 (activeLights (c .before .before .before .before .before .args .s))
+unfolding resolveActiveLights
+front c = ap (λ (l : ActiveLights). take (l .len) (l .lights)) (c .resolve-active-lights .ensures) ∙ listed-front (activeLights (c .before .before .before .before .before .args .s))
+
+counted : (c : tie.After-resolve-active-lights) → c .resolve-active-lights .result .len ≡ length (take 8 (activeLights (c .before .before .before .before .before .args .s)))
+unfolding resolveActiveLights listed
+counted c = ap (λ (l : ActiveLights). l .len) (c .resolve-active-lights .ensures)
+
+-- under their mask the section has six rows for each
+filled : (c : tie.Else3) → lightCount (c .before .before .before .before .before .before .before .args .key) ≡ c .before .before .resolve-active-lights .result .len * 6
+unfolding lightCount
+filled c =
+    let list = c .before .before in
+    ap (λ (m : ℕ). places m * 6) (c .if3 .left ∙ c .before .low-bits .ensures)
+    ∙ ap (λ (n : ℕ). n * 6) (places-low (list .resolve-active-lights .result .len) (few list))
+
+is-length-requires : tie.Need-is-length-requires
+is-length-requires c κs = search needs
+
+returns : tie.Need-returns
+returns c =
+    let a = c .before .before .before .args in
+    another-length Lights (a .s) (a .key) (a .dst .now) _ (c .before .is-length .ensures) (not-true (c .before .is-length .result) (c .if1 .taken))
+
+returns-2 : tie.Need-returns-2
+returns-2 c =
+    let a = c .before .before .before .before .args in
+    done (c .before) (none-accepted (a .s) (a .key) (c .if2 .taken)) _ (none-packed (a .s) (a .key) _ (long (c .before)) (c .if2 .taken))
+
+resolve-active-lights-requires : tie.Need-resolve-active-lights-requires
+resolve-active-lights-requires c κs = search needs
+
+low-bits-requires : tie.Need-low-bits-requires
+low-bits-requires c κs = few c
+
+returns-3 : tie.Need-returns-3
+returns-3 c =
+    let list = c .before .before in
+    let test = list .before .before in
+    let a = test .before .before .before .args in
+    another-mask Lights (a .s) (a .key) (a .dst .now) _ (test .before .is-length .ensures) (ok test)
+    (another-refused (a .s) (a .key) (list .resolve-active-lights .result .len) (list .before .if2 .left) (counted list) (λ e. c .if3 .taken (e ∙ sym (c .before .low-bits .ensures))))
+
+write-lights-requires : tie.Need-write-lights-requires
+write-lights-requires c κs =
+    let masked = c .before .before in
+    let list = masked .before .before in
+    (few list, omega (arith, long (list .before .before), filled masked))
+
+same-length : tie.Need-same-length
+same-length c = search needs
+
+returns-4 : tie.Need-returns-4
+returns-4 c =
+    let wrote = c .before .before in
+    let masked = wrote .before .before .before in
+    let list = masked .before .before in
+    let test = list .before .before in
+    let a = test .before .before .before .args in
+    done test
+    (its-accepted (a .s) (a .key) (list .resolve-active-lights .result .len) (list .before .if2 .left) (counted list) (masked .if3 .left ∙ masked .before .low-bits .ensures))
+    _
+    (wrote .write-lights .ensures
+    ∙ ap (λ (ls : List D3DLIGHT9). floats (lightsRows (a .s .view) ls)) (front list)
+    ∙ some-packed (a .s) (a .key) (list .before .if2 .left))
+
+pub fill-lights-section-spec : {M : Type 1} → statement M
+fill-lights-section-spec =
+    tie.close
+    (tie.spec
+    is-length-requires
+    returns
+    returns-2
+    resolve-active-lights-requires
+    low-bits-requires
+    returns-3
+    write-lights-requires
+    same-length
+    returns-4)

@@ -1,0 +1,57 @@
+-- The rows of a section over what they depend on. Document 01, 'Rows of a section'.
+use mathlib.Core.Bool.{Bool, true, cond, _||_}
+use mathlib.Core.List.{List, []}
+use lib.Dec.{eqb}
+use lib.ListN.{getD, take}
+use Rattle.d3d9_types.specs.declared.matrix.Row.{Row}
+use Rattle.d3d9_types.specs.declared.matrix.D3DMATRIX.{D3DMATRIX}
+use Rattle.d3d9_types.specs.declared.material.D3DMATERIAL9.{D3DMATERIAL9}
+use Rattle.d3d9_types.specs.declared.light.D3DLIGHT9.{D3DLIGHT9}
+use Rattle.light_table.specs.Active.{masksOf}
+use Rattle.ff_state.specs.State.{noMatrix}
+use Rattle.ff_state.specs.Active.{activeLights}
+use Rattle.ff_state.specs.declared.sections.Section.{Section}
+use Rattle.ff_state.specs.declared.sections.Section.the-variants.{Wv, Proj, Material, Lights, Palette, Tt}
+use Rattle.ff_state.specs.declared.state.FfState.{FfState}
+use Rattle.rows.specs.Matrices.{projectionRows, worldViewRows, paletteRows}
+use Rattle.rows.specs.Material.{materialRows}
+use Rattle.light_rows.specs.Light.{lightsRows}
+use Rattle.sections.specs.Counts.{paletteMatrices}
+use Rattle.sections.specs.declared.key.FfVsKey.{FfVsKey}
+
+pub record Inputs : Type 0 where
+  pub view : D3DMATRIX
+  pub projection : D3DMATRIX
+  -- 256 world matrices
+  pub palette : List D3DMATRIX
+  pub material : D3DMATERIAL9
+  -- the compacted list, at most eight
+  pub lights : List D3DLIGHT9
+
+-- a mask of 0 packs no light; of texture matrices none is packed, as their mask is 0
+unfoldable pub packedRows : Section → FfVsKey → Inputs → List Row
+packedRows Wv k i = worldViewRows (i .view) (getD (i .palette) 0 noMatrix)
+packedRows Proj k i = projectionRows (i .projection)
+packedRows Material k i = materialRows (k .«lighting_enabled») (k .«specular_enable») (i .material)
+packedRows Lights k i = cond (eqb (k .«light_active_mask») 0) [] (lightsRows (i .view) (i .lights))
+packedRows Palette k i = paletteRows (i .view) (take (paletteMatrices k) (i .palette))
+packedRows Tt k i = []
+
+-- refused 5: "the light mask is not 0 and is not the compacted active mask"; only the lights' section looks at it
+unfoldable pub maskAccepted : Section → FfVsKey → Inputs → Bool
+maskAccepted Lights k i = eqb (k .«light_active_mask») 0 || eqb (k .«light_active_mask») (masksOf (i .lights) .active)
+maskAccepted Wv k i = true
+maskAccepted Proj k i = true
+maskAccepted Material k i = true
+maskAccepted Palette k i = true
+maskAccepted Tt k i = true
+
+abbrev pub inputsOf : FfState → Inputs
+inputsOf s =
+    record {
+      view = s .view;
+      projection = s .projection;
+      palette = s .«world_palette»;
+      material = s .material;
+      lights = take 8 (activeLights s);
+    }

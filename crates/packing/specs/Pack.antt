@@ -1,0 +1,40 @@
+-- Packing one section. Document 01, 'A refresh, from the top': it "does not look at HAS_RHW and refuses: 4, the destination is not 4 times the section's rows; then, for LIGHTS, 5".
+use Prim.Native.Nat.{ℕ, _*_}
+use mathlib.Core.Bool.{cond}
+use mathlib.Core.List.{List}
+use lib.Dec.{eqb}
+use lib.Ieee.{Float}
+use lib.ListN.{length}
+use Rattle.ff_state.specs.declared.sections.Section.{Section}
+use Rattle.ff_state.specs.declared.state.FfState.{FfState}
+use Rattle.rows.specs.Rows.{floats}
+use Rattle.sections.specs.Key.{noTextures}
+use Rattle.sections.specs.Shape.{sectionRows}
+use Rattle.sections.specs.declared.key.FfVsKey.{FfVsKey}
+use Rattle.packing.specs.Inputs.{packedRows, maskAccepted, inputsOf}
+use Rattle.packing.specs.declared.answer.PackAnswer.{PackAnswer}
+use Rattle.packing.specs.declared.answer.PackAnswer.the-variants.{Packed, WrongLength, WrongMask}
+
+-- the answer, and the destination afterwards
+pub record Outcome : Type 0 where
+  pub answer : PackAnswer
+  pub floats : List Float
+
+abbrev pub outcome : PackAnswer → List Float → Outcome
+outcome a xs = record { answer = a; floats = xs }
+
+-- the state's rows of a section under a key
+abbrev pub stateRows : Section → FfState → FfVsKey → List Float
+stateRows σ s k = floats (packedRows σ k (inputsOf s))
+
+unfoldable pub packSection : Section → FfState → FfVsKey → List Float → Outcome
+packSection σ s k dst =
+    cond (eqb (length dst) (4 * sectionRows σ k noTextures))
+    (cond (maskAccepted σ k (inputsOf s)) (outcome Packed (stateRows σ s k)) (outcome WrongMask dst))
+    (outcome WrongLength dst)
+
+-- document 01's number of each answer
+unfoldable pub packNumber : PackAnswer → ℕ
+packNumber Packed = 0
+packNumber WrongLength = 4
+packNumber WrongMask = 5
