@@ -2,19 +2,10 @@
 -- Assumes nothing.
 use Rattle.ff_state.specs.declared.sections.Section.the-variants.{Proj}
 use native.Mathlib.Omega.{arith}
-use mathlib.Core.Path.{_≡_, refl, ap, _∙_}
-use borrow.Author.Tests.{not-true, not-false}
+use mathlib.Core.Path.{refl, ap, _∙_}
 use Rattle.sections.specs.Shape.{sectionShape}
 use Rattle.packing.specs.Inputs.{packedRows, maskAccepted}
-use Rattle.packing.proofs.Outcomes.{another-length, its-length, packs}
-use Prim.Native.Nat.{_*_}
-use mathlib.Core.List.{List}
-use lib.Ieee.{Float}
-use lib.ListN.{length}
-use Rattle.sections.specs.Key.{noTextures}
-use Rattle.sections.specs.Shape.{sectionRows}
-use Rattle.packing.specs.Pack.{outcome, stateRows, packSection}
-use Rattle.packing.specs.declared.answer.PackAnswer.the-variants.{Packed}
+use Rattle.packing.proofs.Outcomes.{Passed, failed, passed}
 use lib.Seq.{sets}
 use Rattle.d3d9_types.specs.declared.matrix.D3DMATRIX.{D3DMATRIX}
 use Rattle.rows.specs.Rows.{floats}
@@ -24,48 +15,35 @@ use borrow.Author.Needs.{needs}
 use Rattle.packing.proofs.fill.fill_proj_section.Statement.{statement}
 use Rattle.packing.proofs.fill.fill_proj_section.Tie as tie
 
--- what the test of the length showed
-long : (c : tie.Else1) → length (c .before .before .before .args .dst .now) ≡ 4 * sectionRows Proj (c .before .before .before .args .key) noTextures
-long c =
-    let a = c .before .before .before .args in
-    its-length Proj (a .s) (a .key) (a .dst .now) _ (c .before .is-length .ensures) (not-false (c .before .is-length .result) (c .if1 .left))
-
--- rows that stand there are the outcome
-done : (c : tie.Else1) (xs : List Float) → xs ≡ stateRows Proj (c .before .before .before .args .s) (c .before .before .before .args .key)
-    → outcome Packed xs ≡ packSection Proj (c .before .before .before .args .s) (c .before .before .before .args .key) (c .before .before .before .args .dst .now)
-unfolding maskAccepted
-done c xs is =
-    let a = c .before .before .before .args in
-    packs Proj (a .s) (a .key) (a .dst .now) _ (c .before .is-length .ensures) (not-false (c .before .is-length .result) (c .if1 .left)) refl xs is
+ok : (c : tie.Else1) → Passed Proj (c .before .before .before .args .s) (c .before .before .before .args .key) (c .before .before .before .args .dst .now)
+ok c = passed _ _ _ _ (c .before .is-length .ensures) (c .if1 .left)
 
 is-length-requires : tie.Need-is-length-requires
 is-length-requires c κs = search needs
 
 returns : tie.Need-returns
-returns c =
-    let a = c .before .before .before .args in
-    another-length Proj (a .s) (a .key) (a .dst .now) _ (c .before .is-length .ensures) (not-true (c .before .is-length .result) (c .if1 .taken))
+returns c = failed Proj _ _ _ (c .before .is-length .ensures) (c .if1 .taken)
 
 transpose-requires : tie.Need-transpose-requires
 transpose-requires c κs = search needs
 
 write-matrix-requires : tie.Need-write-matrix-requires
 unfolding sectionShape
-write-matrix-requires c κs = omega (arith, long (c .before .before))
+write-matrix-requires c κs = omega (arith, ok (c .before .before) .long)
 
 same-length : tie.Need-same-length
 same-length c = search needs
 
 returns-2 : tie.Need-returns-2
-unfolding packedRows projectionRows sectionShape floats
+unfolding packedRows maskAccepted projectionRows sectionShape floats
 returns-2 c =
     let wrote = c .before .before in
     let test = wrote .before .before .before in
     let m = test .before .before .before .args .dst .now in
-    done test _
+    ok test .packs refl _
     (wrote .write-matrix .ensures
     ∙ ap (λ (w : D3DMATRIX). sets m 0 (floats (matrixRows w))) (wrote .before .transpose .ensures)
-    ∙ sets-whole _ m (long test))
+    ∙ sets-whole _ m (ok test .long))
 
 pub fill-proj-section-spec : {M : Type 1} → statement M
 fill-proj-section-spec =

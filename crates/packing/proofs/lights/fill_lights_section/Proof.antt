@@ -3,11 +3,8 @@
 use Prim.Native.Nat.{ℕ, _*_, _≤_}
 use native.Mathlib.Omega.{arith}
 use mathlib.Core.Path.{_≡_, sym, ap, subst, _∙_}
-use mathlib.Core.Bool.{true}
 use mathlib.Core.List.{List}
-use lib.Ieee.{Float}
 use lib.ListN.{length, take}
-use borrow.Author.Tests.{not-true, not-false}
 use Rattle.d3d9_types.specs.declared.light.D3DLIGHT9.{D3DLIGHT9}
 use Rattle.light_table.specs.Active.{listed}
 use Rattle.light_table.specs.declared.active.ActiveLights.{ActiveLights}
@@ -18,33 +15,15 @@ use Rattle.rows.specs.Rows.{floats}
 use Rattle.light_rows.specs.Light.{lightsRows}
 use Rattle.sections.specs.Counts.{places, lightCount}
 use Rattle.sections.specs.Shape.{sectionShape}
-use Rattle.packing.specs.Inputs.{maskAccepted, inputsOf}
-use Rattle.packing.specs.Pack.{outcome, stateRows, packSection}
-use Rattle.packing.specs.declared.answer.PackAnswer.the-variants.{Packed}
 use Rattle.packing.proofs.Lengths.{places-low}
-use Rattle.packing.proofs.Outcomes.{another-length, its-length, another-mask, packs}
+use Rattle.packing.proofs.Outcomes.{Passed, failed, passed}
 use Rattle.packing.proofs.LightMask.{none-accepted, none-packed, its-accepted, another-refused, some-packed}
 use borrow.Author.Needs.{needs}
 use Rattle.packing.proofs.lights.fill_lights_section.Statement.{statement}
 use Rattle.packing.proofs.lights.fill_lights_section.Tie as tie
 
--- what the test of the length showed
-ok : (c : tie.Else1) → c .before .is-length .result ≡ true
-ok c = not-false (c .before .is-length .result) (c .if1 .left)
-
-long : (c : tie.Else1) → length (c .before .before .before .args .dst .now) ≡ 4 * lightCount (c .before .before .before .args .key)
-unfolding sectionShape
-long c =
-    let a = c .before .before .before .args in
-    its-length Lights (a .s) (a .key) (a .dst .now) _ (c .before .is-length .ensures) (ok c)
-
--- rows that stand there under an accepted mask are the outcome
-done : (c : tie.Else1) → maskAccepted Lights (c .before .before .before .args .key) (inputsOf (c .before .before .before .args .s)) ≡ true
-    → (xs : List Float) → xs ≡ stateRows Lights (c .before .before .before .args .s) (c .before .before .before .args .key)
-    → outcome Packed xs ≡ packSection Lights (c .before .before .before .args .s) (c .before .before .before .args .key) (c .before .before .before .args .dst .now)
-done c m xs is =
-    let a = c .before .before .before .args in
-    packs Lights (a .s) (a .key) (a .dst .now) _ (c .before .is-length .ensures) (ok c) m xs is
+ok : (c : tie.Else1) → Passed Lights (c .before .before .before .args .s) (c .before .before .before .args .key) (c .before .before .before .args .dst .now)
+ok c = passed _ _ _ _ (c .before .is-length .ensures) (c .if1 .left)
 
 -- the resolved list: at most eight lights, which stand in front
 few : (c : tie.After-resolve-active-lights) → c .resolve-active-lights .result .len ≤ 8
@@ -71,14 +50,13 @@ is-length-requires : tie.Need-is-length-requires
 is-length-requires c κs = search needs
 
 returns : tie.Need-returns
-returns c =
-    let a = c .before .before .before .args in
-    another-length Lights (a .s) (a .key) (a .dst .now) _ (c .before .is-length .ensures) (not-true (c .before .is-length .result) (c .if1 .taken))
+returns c = failed Lights _ _ _ (c .before .is-length .ensures) (c .if1 .taken)
 
 returns-2 : tie.Need-returns-2
+unfolding sectionShape
 returns-2 c =
     let a = c .before .before .before .before .args in
-    done (c .before) (none-accepted (a .s) (a .key) (c .if2 .taken)) _ (none-packed (a .s) (a .key) _ (long (c .before)) (c .if2 .taken))
+    ok (c .before) .packs (none-accepted (a .s) (a .key) (c .if2 .taken)) _ (none-packed (a .s) (a .key) _ (ok (c .before) .long) (c .if2 .taken))
 
 resolve-active-lights-requires : tie.Need-resolve-active-lights-requires
 resolve-active-lights-requires c κs = search needs
@@ -91,14 +69,15 @@ returns-3 c =
     let list = c .before .before in
     let test = list .before .before in
     let a = test .before .before .before .args in
-    another-mask Lights (a .s) (a .key) (a .dst .now) _ (test .before .is-length .ensures) (ok test)
+    ok test .another-mask
     (another-refused (a .s) (a .key) (list .resolve-active-lights .result .len) (list .before .if2 .left) (counted list) (λ e. c .if3 .taken (e ∙ sym (c .before .low-bits .ensures))))
 
 write-lights-requires : tie.Need-write-lights-requires
+unfolding sectionShape
 write-lights-requires c κs =
     let masked = c .before .before in
     let list = masked .before .before in
-    (few list, omega (arith, long (list .before .before), filled masked))
+    (few list, omega (arith, ok (list .before .before) .long, filled masked))
 
 same-length : tie.Need-same-length
 same-length c = search needs
@@ -110,7 +89,7 @@ returns-4 c =
     let list = masked .before .before in
     let test = list .before .before in
     let a = test .before .before .before .args in
-    done test
+    ok test .packs
     (its-accepted (a .s) (a .key) (list .resolve-active-lights .result .len) (list .before .if2 .left) (counted list) (masked .if3 .left ∙ masked .before .low-bits .ensures))
     _
     (wrote .write-lights .ensures
