@@ -1,1 +1,3 @@
 pub mod Bounds
+pub mod Reach
+pub mod Tiles

@@ -1,8 +1,12 @@
 -- The number of rows that a draw reads (ff_state.rs 1640–1697), each part one past the last row that the Rust gives it. A fog row, 8, is never the last: the material's begin at 10.
 use Prim.Native.Nat.{ℕ, _+_, max}
 use mathlib.Core.Bool.{cond}
+use mathlib.Core.List.{List, [], _∷_}
 use lib.Dec.{eqb}
+use Rattle.ff_state.specs.declared.sections.Section.{Section}
+use Rattle.ff_state.specs.declared.sections.Section.the-variants.{Wv, Proj, Material, Lights, Palette, Tt}
 use Rattle.sections.specs.Counts.{lightCount, paletteCount, textureCount}
+use Rattle.sections.specs.Shape.{sectionShape, reach}
 use Rattle.sections.specs.declared.key.FfVsKey.{FfVsKey}
 
 -- unlit up to row 10; lit up to row 13, or 14 if specular; a lit light's rows lie beyond both
@@ -20,3 +24,16 @@ paletteReach k = cond (eqb (k .«vertex_blend_count») 0) 0 (95 + paletteCount k
 
 unfoldable pub ffVsRowCount : FfVsKey → ℕ → ℕ
 ffVsRowCount k t = cond (k .«has_rhw») 1 (max (max (lightingReach k) (textureReach t)) (paletteReach k))
+
+-- ---- the same by the table
+
+-- the sections that a draw without HAS_RHW reads: the lights' only when lit
+abbrev pub readSections : FfVsKey → List Section
+readSections k =
+    let others = Wv ∷ Proj ∷ Material ∷ Tt ∷ Palette ∷ [] in
+    cond (k .«lighting_enabled») (Lights ∷ others) others
+
+-- the greatest reach
+abbrev pub greatestReach : List Section → FfVsKey → ℕ → ℕ
+greatestReach [] k t = 0
+greatestReach (σ ∷ σs) k t = max (reach (sectionShape σ k t)) (greatestReach σs k t)
