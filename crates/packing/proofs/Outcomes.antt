@@ -13,7 +13,7 @@ use Rattle.sections.specs.Key.{noTextures}
 use Rattle.sections.specs.Shape.{sectionRows}
 use Rattle.sections.specs.declared.key.FfVsKey.{FfVsKey}
 use Rattle.packing.specs.Inputs.{maskAccepted, inputsOf}
-use Rattle.packing.specs.Pack.{outcome, stateRows, packSection}
+use Rattle.packing.specs.Pack.{outcome, packInputs, stateRows, packSection}
 use Rattle.packing.specs.declared.answer.PackAnswer.the-variants.{Packed, WrongLength, WrongMask}
 
 -- what is known once the test of the length has passed
@@ -24,11 +24,11 @@ pub record Passed (σ : Section) (s : FfState) (k : FfVsKey) (dst : List Float) 
 
 module _ (σ : Section) (s : FfState) (k : FfVsKey) (dst : List Float) {b : Bool} (tested : b ≡ eqb (length dst) (4 * sectionRows σ k noTextures)) where
   pub failed : not b ≡ true → outcome WrongLength dst ≡ packSection σ s k dst
-  unfolding packSection
+  unfolding packSection packInputs
   failed e = rw (sym tested ∙ not-true b e)
 
   pub passed : not b ≡ false → Passed σ s k dst
-  unfolding packSection
+  unfolding packSection packInputs
   passed e =
       let right : eqb (length dst) (4 * sectionRows σ k noTextures) ≡ true = sym tested ∙ not-false b e in
       record {

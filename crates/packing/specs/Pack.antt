@@ -11,7 +11,7 @@ use Rattle.rows.specs.Rows.{floats}
 use Rattle.sections.specs.Key.{noTextures}
 use Rattle.sections.specs.Shape.{sectionRows}
 use Rattle.sections.specs.declared.key.FfVsKey.{FfVsKey}
-use Rattle.packing.specs.Inputs.{packedRows, maskAccepted, inputsOf}
+use Rattle.packing.specs.Inputs.{Inputs, packedRows, maskAccepted, inputsOf}
 use Rattle.packing.specs.declared.answer.PackAnswer.{PackAnswer}
 use Rattle.packing.specs.declared.answer.PackAnswer.the-variants.{Packed, WrongLength, WrongMask}
 
@@ -23,15 +23,18 @@ pub record Outcome : Type 0 where
 abbrev pub outcome : PackAnswer → List Float → Outcome
 outcome a xs = record { answer = a; floats = xs }
 
+unfoldable pub packInputs : Section → FfVsKey → Inputs → List Float → Outcome
+packInputs σ k i dst =
+    cond (eqb (length dst) (4 * sectionRows σ k noTextures))
+    (cond (maskAccepted σ k i) (outcome Packed (floats (packedRows σ k i))) (outcome WrongMask dst))
+    (outcome WrongLength dst)
+
+unfoldable pub packSection : Section → FfState → FfVsKey → List Float → Outcome
+packSection σ s k dst = packInputs σ k (inputsOf s) dst
+
 -- the state's rows of a section under a key
 abbrev pub stateRows : Section → FfState → FfVsKey → List Float
 stateRows σ s k = floats (packedRows σ k (inputsOf s))
-
-unfoldable pub packSection : Section → FfState → FfVsKey → List Float → Outcome
-packSection σ s k dst =
-    cond (eqb (length dst) (4 * sectionRows σ k noTextures))
-    (cond (maskAccepted σ k (inputsOf s)) (outcome Packed (stateRows σ s k)) (outcome WrongMask dst))
-    (outcome WrongLength dst)
 
 -- document 01's number of each answer
 unfoldable pub packNumber : PackAnswer → ℕ
