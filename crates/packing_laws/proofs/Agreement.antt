@@ -1,0 +1,58 @@
+-- A valid state and the abstract state that it agrees with have the same inputs, so the same packing under every key. Assumes nothing.
+use Prim.Native.Nat.{ℕ, zero, suc, _+_, _<_}
+use native.Mathlib.Nat.{add-zero, not-suc-le-zero, le-of-suc-le-suc}
+use native.Mathlib.Omega.{arith}
+use mathlib.Core.Path.{_≡_, refl, sym, ap, _∙_}
+use mathlib.Core.List.{List}
+use lib.Ieee.{Float}
+use lib.ListN.{length, take, getD}
+use lib.Seq.{ext-getD}
+use Rattle.d3d9_types.specs.declared.matrix.D3DMATRIX.{D3DMATRIX}
+use Rattle.d3d9_model.specs.State.{AbstractState}
+use Rattle.ff_state.specs.State.{noMatrix}
+use Rattle.ff_state.specs.Valid.{Valid}
+use Rattle.ff_state.specs.declared.sections.Section.{Section}
+use Rattle.ff_state.specs.declared.state.FfState.{FfState}
+use Rattle.agreement.specs.Agrees.{Agrees}
+use Rattle.agreement.proofs.Active.{active-agrees}
+use Rattle.rows.specs.Rows.{floats}
+use Rattle.sections.specs.declared.key.FfVsKey.{FfVsKey}
+use Rattle.packing.specs.Inputs.{Inputs, packedRows, inputsOf}
+use Rattle.packing.specs.Pack.{stateRows, packInputs, packSection}
+use Rattle.packing_laws.specs.Abstract.{matricesFrom, abstractInputs, abstractRows, abstractPack}
+
+length-matrices : (m : ℕ → D3DMATRIX) (from n : ℕ) → length (matricesFrom m from n) ≡ n
+unfolding matricesFrom
+length-matrices m from zero = refl
+length-matrices m from (suc n) = ap suc (length-matrices m (suc from) n)
+
+matrices-at : (m : ℕ → D3DMATRIX) (from n i : ℕ) → i < n → getD (matricesFrom m from n) i noMatrix ≡ m (from + i)
+unfolding matricesFrom
+matrices-at m from zero i h = absurd (not-suc-le-zero h)
+matrices-at m from (suc n) zero h = ap m (sym (add-zero from))
+matrices-at m from (suc n) (suc i) h =
+    let e : suc from + i ≡ from + suc i = omega arith in
+    matrices-at m (suc from) n i (le-of-suc-le-suc h) ∙ ap m e
+
+module _ {s : FfState} {a : AbstractState} (v : Valid s) (g : Agrees s a) where
+  palette-agrees : s .«world_palette» ≡ matricesFrom (a .matrix) 256 256
+  palette-agrees =
+      ext-getD noMatrix (s .«world_palette») (matricesFrom (a .matrix) 256 256) (v .palette-length ∙ sym (length-matrices (a .matrix) 256 256))
+      (λ i h.
+      let below : i < 256 = rw (v .palette-length) at h in
+      g .palette i below ∙ sym (matrices-at (a .matrix) 256 256 i below))
+
+  pub inputs-agree : inputsOf s ≡ abstractInputs a
+  unfolding abstractInputs
+  inputs-agree =
+      let palette = palette-agrees in
+      let lights = ap (take 8) (active-agrees v g) in
+      λ i. record { view = g .view i; projection = g .projection i; palette = palette i; material = g .material i; lights = lights i }
+
+  pub rows-agree : (σ : Section) (k : FfVsKey) → stateRows σ s k ≡ floats (abstractRows σ a k)
+  unfolding abstractRows
+  rows-agree σ k = ap (λ (i : Inputs). floats (packedRows σ k i)) inputs-agree
+
+  pub packing-agrees : (σ : Section) (k : FfVsKey) (dst : List Float) → packSection σ s k dst ≡ abstractPack σ a k dst
+  unfolding packSection abstractPack
+  packing-agrees σ k dst = ap (λ (i : Inputs). packInputs σ k i dst) inputs-agree
