@@ -1,3 +1,4 @@
 pub mod Stores
 pub mod Floats
 pub mod Items
+pub mod Fits

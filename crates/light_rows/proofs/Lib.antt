@@ -1,0 +1,2 @@
+pub mod Fits
+mod Examples
