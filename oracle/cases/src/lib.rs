@@ -2,6 +2,13 @@
 //! that a stored list of answers can be written without it.
 
 pub mod answers;
+pub mod call;
+pub mod damage;
 pub mod floats;
+pub mod image;
+pub mod lists;
 pub mod matrices;
+pub mod model;
 pub mod random;
+pub mod records;
+pub mod world;

@@ -79,6 +79,122 @@ bends! {
         InverseLength, "inverse-length", ["lengths"];
         InverseOrder, "inverse-order", ["lengths"];
     }
+    "ff_image_fresh" {
+        FreshClean, "fresh-clean", ["calls"];
+        FreshAlpha, "fresh-alpha", ["calls"];
+        FreshLonger, "fresh-longer", ["calls"];
+    }
+    "ff_image_check" {
+        CheckLength, "check-length", ["calls"];
+        CheckDirty, "check-dirty", ["calls"];
+        CheckZero, "check-zero", ["calls"];
+        CheckHighest, "check-highest", ["calls"];
+        CheckCount, "check-count", ["calls"];
+        CheckOrder, "check-order", ["calls"];
+        CheckEnable, "check-enable", ["calls"];
+        CheckUnused, "check-unused", ["calls"];
+        CheckEnabled, "check-enabled", ["calls"];
+        CheckUndefined, "check-undefined", ["calls"];
+        CheckNan, "check-nan", ["calls"];
+        CheckType, "check-type", ["calls"];
+        CheckOneNan, "check-one-nan", ["calls"];
+    }
+    "ff_set_transform" {
+        SetLengthBeforeImage, "set-length-before-image", ["calls"];
+        SetLengthBeforeState, "set-length-before-state", ["calls"];
+        SetStateBeforeImage, "set-state-before-image", ["calls"];
+        SetStateCut, "set-state-cut", ["calls"];
+        SetRefusesLast, "set-refuses-last", ["calls"];
+        SetEqualKeepsClean, "set-equal-keeps-clean", ["calls"];
+        SetRefusalMarks, "set-refusal-marks", ["calls"];
+        ViewLeavesLights, "view-leaves-lights", ["calls"];
+        BoneMarksWv, "bone-marks-wv", ["calls"];
+        SetMarksAll, "set-marks-all", ["calls"];
+        SetForgetsHighest, "set-forgets-highest", ["calls"];
+        SetHighestOne, "set-highest-last", ["calls"];
+        SetLastByte, "set-last-byte", ["calls"];
+    }
+    "ff_multiply_transform" {
+        MultiplyForgetsHighest, "multiply-forgets-highest", ["calls"];
+        MultiplySwapped, "multiply-swapped", ["calls"];
+    }
+    "ff_transform" {
+        TransformLonger, "transform-longer", ["calls"];
+        TransformRefusalIdentity, "transform-refusal-writes", ["calls"];
+        TransformNan, "transform-nan", ["calls"];
+        TransformTransposed, "transform-transposed", ["calls"];
+    }
+    "ff_world_palette_used" {
+        PaletteUsedIndex, "palette-used-index", ["calls"];
+        PaletteUsedCap, "palette-used-cap", ["calls"];
+    }
+    "ff_world_view_projection" {
+        WvpFromRight, "wvp-from-right", ["calls"];
+    }
+    "ff_set_material" {
+        MaterialNan, "material-nan", ["calls"];
+        MaterialExchanged, "material-exchanged", ["calls"];
+        MaterialNegativeZero, "material-negative-zero", ["calls"];
+        MaterialFlushes, "material-flushes", ["calls"];
+        MaterialRefusalWrites, "material-refusal-writes", ["calls"];
+    }
+    "ff_material" {
+        MaterialTakes, "material-read-takes", ["calls"];
+    }
+    "ff_set_light_at" {
+        LightLengthBeforeFull, "light-length-before-full", ["calls"];
+        LightFullOfStored, "light-full-of-stored", ["calls"];
+        LightFullEarly, "light-full-early", ["calls"];
+        LightFullDrops, "light-full-drops", ["calls"];
+        LightAtNext, "light-at-next", ["calls"];
+        LightIndexCut, "light-index-cut", ["calls"];
+        LightClearsEnable, "light-clears-enable", ["calls"];
+        LightTypeNan, "light-type-nan", ["calls"];
+        LightLeavesClean, "light-leaves-clean", ["calls"];
+        LightRefusesOdd, "light-drops-odd-type", ["calls"];
+    }
+    "ff_set_light_enabled_at" {
+        EnabledOne, "enabled-one-only", ["calls"];
+        EnabledByte, "enabled-byte", ["calls"];
+        EnableRaw, "enable-raw", ["calls"];
+        EnableDropped, "enable-dropped", ["calls"];
+        EnableAlpha, "enable-alpha", ["calls"];
+        EnableCount, "enable-count", ["calls"];
+    }
+    "ff_get_light_at" {
+        GetLengthBeforeUndefined, "get-length-before-undefined", ["calls"];
+        GetRefusalWrites, "get-refusal-writes", ["calls"];
+        GetNan, "get-nan", ["calls"];
+        GetEnabledOnly, "get-type-directional", ["calls"];
+    }
+    "ff_is_light_enabled_at" {
+        IsEnabledRefusalNumber, "is-enabled-refusal-number", ["calls"];
+        IsEnabledMask, "is-enabled-255", ["calls"];
+    }
+    "ff_is_light_defined_at" {
+        IsDefinedEnabled, "is-defined-enabled", ["calls"];
+    }
+    "ff_vs_source_light_inputs" {
+        SourceTag, "source-tag", ["calls"];
+        SourceUnmasked, "source-unmasked", ["calls"];
+    }
+    "ff_compacted_light_masks" {
+        MasksExchanged, "masks-exchanged", ["calls"];
+        MasksTag, "masks-tag", ["calls"];
+        MasksSlots, "masks-slots", ["calls"];
+    }
+    "ff_mark_ff_vs_dirty" {
+        MarkSeventh, "mark-seventh", ["calls"];
+        MarkByte, "mark-byte", ["calls"];
+        MarkBitsBeforeImage, "mark-bits-before-image", ["calls"];
+        MarkRefusalMarks, "mark-refusal-marks", ["calls"];
+        MarkReplaces, "mark-replaces", ["calls"];
+    }
+    "ff_take_ff_vs_dirty" {
+        TakeKeeps, "take-keeps", ["calls"];
+        TakeForgets, "take-forgets", ["calls"];
+        TakeRefusalNumber, "take-refusal-number", ["calls"];
+    }
 }
 
 pub fn named(name: &str) -> Option<Bend> {

@@ -1,6 +1,9 @@
 //! Our library, as the host sees it (HOST-ABI.md), with the bends of the self-test in between.
 
+use cases::call::{Call, Name};
+
 use crate::bend::{self, Bend};
+use crate::bend_calls;
 
 /// The calls by their C names.
 pub mod raw {
@@ -17,6 +20,81 @@ pub mod raw {
         ) -> u32;
         pub fn ff_transpose(m: *const u8, m_len: usize, out: *mut u8, out_len: usize) -> u32;
         pub fn ff_inverse(m: *const u8, m_len: usize, out: *mut u8, out_len: usize) -> u32;
+
+        pub fn ff_image_fresh(image: *mut u8, image_len: usize) -> u32;
+        pub fn ff_image_check(image: *const u8, image_len: usize) -> u32;
+        pub fn ff_set_transform(
+            image: *mut u8,
+            image_len: usize,
+            state: u32,
+            matrix: *const u8,
+            matrix_len: usize,
+        ) -> u32;
+        pub fn ff_multiply_transform(
+            image: *mut u8,
+            image_len: usize,
+            state: u32,
+            matrix: *const u8,
+            matrix_len: usize,
+        ) -> u32;
+        pub fn ff_transform(
+            image: *const u8,
+            image_len: usize,
+            state: u32,
+            out: *mut u8,
+            out_len: usize,
+        ) -> u32;
+        pub fn ff_world_palette_used(image: *const u8, image_len: usize, out: *mut u32) -> u32;
+        pub fn ff_world_view_projection(
+            image: *const u8,
+            image_len: usize,
+            out: *mut u8,
+            out_len: usize,
+        ) -> u32;
+        pub fn ff_set_material(
+            image: *mut u8,
+            image_len: usize,
+            material: *const u8,
+            material_len: usize,
+        ) -> u32;
+        pub fn ff_material(image: *const u8, image_len: usize, out: *mut u8, out_len: usize)
+        -> u32;
+        pub fn ff_set_light_at(
+            image: *mut u8,
+            image_len: usize,
+            index: u32,
+            light: *const u8,
+            light_len: usize,
+        ) -> u32;
+        pub fn ff_set_light_enabled_at(
+            image: *mut u8,
+            image_len: usize,
+            index: u32,
+            enabled: u32,
+        ) -> u32;
+        pub fn ff_get_light_at(
+            image: *const u8,
+            image_len: usize,
+            index: u32,
+            out: *mut u8,
+            out_len: usize,
+        ) -> u32;
+        pub fn ff_is_light_enabled_at(
+            image: *const u8,
+            image_len: usize,
+            index: u32,
+            out: *mut u32,
+        ) -> u32;
+        pub fn ff_is_light_defined_at(
+            image: *const u8,
+            image_len: usize,
+            index: u32,
+            out: *mut u32,
+        ) -> u32;
+        pub fn ff_vs_source_light_inputs(image: *const u8, image_len: usize, out: *mut u32) -> u32;
+        pub fn ff_compacted_light_masks(image: *const u8, image_len: usize, out: *mut u32) -> u32;
+        pub fn ff_mark_ff_vs_dirty(image: *mut u8, image_len: usize, bits: u32) -> u32;
+        pub fn ff_take_ff_vs_dirty(image: *mut u8, image_len: usize, out: *mut u32) -> u32;
     }
 }
 
@@ -71,6 +149,64 @@ impl Host {
         match self.bend {
             None => inverse(m, out),
             Some(bend) => bend::inverse(bend, m, out),
+        }
+    }
+
+    pub fn call(self, call: &Call, lent: Lent<'_>) -> u32 {
+        match self.bend {
+            None => on_image(call, lent),
+            Some(bend) => bend_calls::call(bend, call, lent),
+        }
+    }
+}
+
+/// What a call on an image is lent beside its numbers.
+pub struct Lent<'a> {
+    pub image: &'a mut [u8],
+    pub given: &'a [u8],
+    pub out: &'a mut [u8],
+    pub number: &'a mut u32,
+}
+
+/// Makes the call; of what is lent it is handed what its form has.
+pub fn on_image(call: &Call, lent: Lent<'_>) -> u32 {
+    let Lent {
+        image,
+        given,
+        out,
+        number,
+    } = lent;
+    let (image, image_len) = (image.as_mut_ptr(), image.len());
+    let (given, given_len) = (given.as_ptr(), given.len());
+    let (out, out_len) = (out.as_mut_ptr(), out.len());
+    let n = call.number;
+    // SAFETY: each pointer goes with its slice's length, and no two of them overlap.
+    unsafe {
+        match call.name {
+            Name::ImageFresh => raw::ff_image_fresh(image, image_len),
+            Name::ImageCheck => raw::ff_image_check(image, image_len),
+            Name::SetTransform => raw::ff_set_transform(image, image_len, n, given, given_len),
+            Name::MultiplyTransform => {
+                raw::ff_multiply_transform(image, image_len, n, given, given_len)
+            }
+            Name::Transform => raw::ff_transform(image, image_len, n, out, out_len),
+            Name::WorldPaletteUsed => raw::ff_world_palette_used(image, image_len, number),
+            Name::WorldViewProjection => {
+                raw::ff_world_view_projection(image, image_len, out, out_len)
+            }
+            Name::SetMaterial => raw::ff_set_material(image, image_len, given, given_len),
+            Name::GetMaterial => raw::ff_material(image, image_len, out, out_len),
+            Name::SetLightAt => raw::ff_set_light_at(image, image_len, n, given, given_len),
+            Name::SetLightEnabledAt => {
+                raw::ff_set_light_enabled_at(image, image_len, n, call.enabled)
+            }
+            Name::GetLightAt => raw::ff_get_light_at(image, image_len, n, out, out_len),
+            Name::IsLightEnabledAt => raw::ff_is_light_enabled_at(image, image_len, n, number),
+            Name::IsLightDefinedAt => raw::ff_is_light_defined_at(image, image_len, n, number),
+            Name::VsSourceLightInputs => raw::ff_vs_source_light_inputs(image, image_len, number),
+            Name::CompactedLightMasks => raw::ff_compacted_light_masks(image, image_len, number),
+            Name::MarkFfVsDirty => raw::ff_mark_ff_vs_dirty(image, image_len, n),
+            Name::TakeFfVsDirty => raw::ff_take_ff_vs_dirty(image, image_len, number),
         }
     }
 }

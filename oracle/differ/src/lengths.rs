@@ -3,57 +3,36 @@
 use cases::answers::{self, Words};
 
 use crate::bytes;
+use crate::guarded::Guarded;
 use crate::host::{Host, INVERSE, MAT_MUL, NO_INVERSE, TRANSPOSE, WRONG_LENGTH};
 use crate::report::{Difference, Outcome, Run};
 
 const LONGEST: usize = 80;
 /// 64 once the length is cut to a byte or to two.
 const WRAPPED: [usize; 2] = [256 + 64, 65_536 + 64];
-const GUARD: usize = 32;
 
-/// A slice with bytes on both sides that no call may change.
-#[derive(Clone, PartialEq)]
-struct Lent {
-    bytes: Vec<u8>,
-    start: usize,
-    len: usize,
-}
-
-impl Lent {
-    /// `len` bytes, the first of them those of `words`. `shift` moves the slice off alignment.
-    fn new(words: &Words, len: usize, shift: usize) -> Self {
-        let start = GUARD + shift % 4;
-        let mut bytes: Vec<u8> = (0..start + len + GUARD)
-            .map(|at| (at as u8).wrapping_mul(7) ^ 0x5A)
-            .collect();
-        let matrix = bytes::of(words);
-        let filled = len.min(matrix.len());
-        bytes[start..start + filled].copy_from_slice(&matrix[..filled]);
-        Self { bytes, start, len }
+/// `len` bytes, the first of them those of `words`.
+fn guarded(words: &Words, len: usize, shift: usize) -> Guarded {
+    let mut lent = Guarded::new(len, shift);
+    for (place, byte) in lent.slice_mut().iter_mut().zip(bytes::of(words)) {
+        *place = byte;
     }
-
-    fn slice(&self) -> &[u8] {
-        &self.bytes[self.start..self.start + self.len]
-    }
-
-    fn slice_mut(&mut self) -> &mut [u8] {
-        &mut self.bytes[self.start..self.start + self.len]
-    }
+    lent
 }
 
 /// Runs one call on `inputs` and `out` and compares its status and every byte afterwards.
 fn check(
     run: &mut Run,
     name: &'static str,
-    inputs: &[Lent],
-    out: Lent,
+    inputs: &[Guarded],
+    out: Guarded,
     answer: Result<Words, u32>,
-    call: impl FnOnce(&[Lent], &mut [u8]) -> u32,
+    call: impl FnOnce(&[Guarded], &mut [u8]) -> u32,
 ) -> Outcome {
     let right = inputs
         .iter()
         .chain([&out])
-        .all(|lent| lent.len == bytes::MATRIX);
+        .all(|lent| lent.slice().len() == bytes::MATRIX);
     let answer = if right { answer } else { Err(WRONG_LENGTH) };
     let before = inputs.to_vec();
     let mut expected = out.clone();
@@ -77,7 +56,7 @@ fn check(
     let lengths: Vec<String> = before
         .iter()
         .chain([&expected])
-        .map(|lent| lent.len.to_string())
+        .map(|lent| lent.slice().len().to_string())
         .collect();
     Err(Difference {
         call: name,
@@ -93,11 +72,8 @@ fn product(run: &mut Run, host: Host, lens: [usize; 3], shift: usize) -> Outcome
     check(
         run,
         MAT_MUL,
-        &[
-            Lent::new(&a, lens[0], shift),
-            Lent::new(&b, lens[1], shift / 4),
-        ],
-        Lent::new(&whole(5), lens[2], shift / 16),
+        &[guarded(&a, lens[0], shift), guarded(&b, lens[1], shift / 4)],
+        guarded(&whole(5), lens[2], shift / 16),
         Ok(answers::mat_mul(&a, &b)),
         |inputs, out| host.mat_mul(inputs[0].slice(), inputs[1].slice(), out),
     )
@@ -108,8 +84,8 @@ fn transposed(run: &mut Run, host: Host, lens: [usize; 2], shift: usize) -> Outc
     check(
         run,
         TRANSPOSE,
-        &[Lent::new(&m, lens[0], shift)],
-        Lent::new(&whole(5), lens[1], shift / 4),
+        &[guarded(&m, lens[0], shift)],
+        guarded(&whole(5), lens[1], shift / 4),
         Ok(answers::transpose(&m)),
         |inputs, out| host.transpose(inputs[0].slice(), out),
     )
@@ -119,8 +95,8 @@ fn inverted(run: &mut Run, host: Host, lens: [usize; 2], shift: usize, m: &Words
     check(
         run,
         INVERSE,
-        &[Lent::new(m, lens[0], shift)],
-        Lent::new(&whole(5), lens[1], shift / 4),
+        &[guarded(m, lens[0], shift)],
+        guarded(&whole(5), lens[1], shift / 4),
         answers::inverse(m).ok_or(NO_INVERSE),
         |inputs, out| host.inverse(inputs[0].slice(), out),
     )

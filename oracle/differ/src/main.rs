@@ -2,8 +2,11 @@
 //! `oracle/run help` lists the commands.
 
 mod bend;
+mod bend_calls;
 mod bent;
 mod bytes;
+mod calls;
+mod guarded;
 mod host;
 mod lengths;
 mod matrices;
@@ -11,6 +14,7 @@ mod report;
 mod scalars;
 mod self_test;
 mod shrink;
+mod shrink_list;
 mod vectors;
 
 use std::hint::black_box;
@@ -73,7 +77,8 @@ fn short(run: &mut Run, host: Host) -> Result<Outcome, String> {
         .and_then(|()| scalars::roots(run, host, 6_000_000))
         .and_then(|()| scalars::cosines(run, host, 2_000_000))
         .and_then(|()| matrices::matrices(run, host, 400_000))
-        .and_then(|()| lengths::lengths(run, host)))
+        .and_then(|()| lengths::lengths(run, host))
+        .and_then(|()| calls::calls(run, host, 500_000)))
 }
 
 fn compare(run: &mut Run, arguments: &Arguments) -> Result<Outcome, String> {
@@ -86,6 +91,7 @@ fn compare(run: &mut Run, arguments: &Arguments) -> Result<Outcome, String> {
         "cos" => scalars::cosines(run, host, count(20_000_000)),
         "matrix" => matrices::matrices(run, host, count(5_000_000)),
         "lengths" => lengths::lengths(run, host),
+        "calls" => calls::calls(run, host, count(20_000_000)),
         "root-vectors" => vectors::roots(run, host)?,
         "cos-vectors" => {
             let outcome = vectors::cosines(run, host)?;

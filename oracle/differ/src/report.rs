@@ -22,6 +22,7 @@ struct Tally {
 pub struct Run {
     pub seed: u64,
     tallies: Vec<Tally>,
+    notes: Vec<String>,
     said: Instant,
 }
 
@@ -33,6 +34,7 @@ impl Run {
         Self {
             seed,
             tallies: Vec::new(),
+            notes: Vec::new(),
             said: Instant::now(),
         }
     }
@@ -55,9 +57,21 @@ impl Run {
         }
     }
 
-    /// A progress line, at most once a second.
+    /// A line below the summary's table.
+    pub fn note(&mut self, line: String) {
+        self.notes.push(line);
+    }
+
+    /// A progress line, at most once a second, for a caller who asks at every input.
     pub fn progress(&mut self, call: &str, done: u64, total: u64) {
-        if done.is_multiple_of(STRIDE) && self.said.elapsed() >= Duration::from_secs(1) {
+        if done.is_multiple_of(STRIDE) {
+            self.progress_of(call, done, total);
+        }
+    }
+
+    /// A progress line, at most once a second.
+    pub fn progress_of(&mut self, call: &str, done: u64, total: u64) {
+        if self.said.elapsed() >= Duration::from_secs(1) {
             eprintln!("oracle: {call} {done} of {total}");
             self.said = Instant::now();
         }
@@ -72,19 +86,22 @@ impl Run {
         let numbers: Vec<usize> = (1..10)
             .filter(|&n| self.tallies.iter().any(|tally| tally.statuses[n] != 0))
             .collect();
-        let mut text = format!("{:<14}{:>12}{:>12}", "call", "inputs", "accepted");
+        let mut text = format!("{:<26}{:>12}{:>12}", "call", "inputs", "accepted");
         for n in &numbers {
             let _ = write!(text, "{:>12}", format!("refused {n}"));
         }
         for tally in &self.tallies {
             let _ = write!(
                 text,
-                "\n{:<14}{:>12}{:>12}",
+                "\n{:<26}{:>12}{:>12}",
                 tally.call, tally.inputs, tally.statuses[0]
             );
             for &n in &numbers {
                 let _ = write!(text, "{:>12}", tally.statuses[n]);
             }
+        }
+        for note in &self.notes {
+            let _ = write!(text, "\n{note}");
         }
         text
     }

@@ -57,7 +57,7 @@ pub fn self_test() -> Result<usize, String> {
                 ));
             }
         }
-        println!("{:<26}caught by {}", bent.name, bent.commands.join(", "));
+        println!("{:<28}caught by {}", bent.name, bent.commands.join(", "));
     }
     Ok(BENDS.len())
 }
