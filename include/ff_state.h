@@ -1,11 +1,20 @@
 /* The C interface of libhost.a: the vertex state of Direct3D 9's fixed-function pipeline.
  *
- * Numbers cross as little-endian bytes, four to a number, whatever the machine. A matrix is 64
- * bytes, row by row. A NaN of any pattern is a NaN; where one is answered it is 0x7FC00000.
+ * A state is held as an image of FF_IMAGE_BYTES bytes that the caller owns: ff_image_fresh writes the
+ * first one, every other call reads it, and a call that changes the state writes it back. An image may
+ * be copied, stored and sent; bytes that are no image are refused FF_NO_IMAGE by every call.
  *
- * Every call that takes a slice returns 0 when it is accepted, else the number of one refusal, and a
- * refused call writes nothing. No pointer is null, also at length 0, and a slice that is written
- * overlaps no other argument. Link with -lm.
+ * Numbers cross as little-endian bytes, four to a number, whatever the machine. A slice is a pointer and
+ * its length in bytes. A float may have any bit pattern; a NaN of any pattern is a NaN, and where one is
+ * written it is 0x7FC00000. A light's type is a number, not a float, and is kept as it is.
+ *
+ * Every call but ff_sqrt and ff_cos returns FF_ACCEPTED (0), or else the number of one refusal, and a refused
+ * call writes nothing: not the image, not a slice, not a number. Each comment below lists the refusals
+ * in the order in which they are tested.
+ *
+ * No pointer is null, also at length 0; a uint32_t pointer is aligned; a slice that is written overlaps
+ * no other argument. No call allocates, blocks or keeps a pointer, and calls on different images may run
+ * on different threads. Link with -lm.
  */
 #ifndef FF_STATE_H
 #define FF_STATE_H
@@ -17,13 +26,146 @@
 extern "C" {
 #endif
 
+/* The answers of a call. */
 enum {
     FF_ACCEPTED = 0,
-    FF_WRONG_LENGTH = 4, /* a slice is not as long as its item */
-    FF_SINGULAR = 6,     /* the determinant equals 0 or is not finite */
-
-    FF_MATRIX_BYTES = 64
+    FF_UNKNOWN_STATE = 1,   /* no transform has this state number */
+    FF_UNDEFINED_LIGHT = 2, /* no light was set or enabled at this index */
+    FF_LIGHTS_FULL = 3,     /* a new index of 8 or more, and FF_OVERFLOW_LIGHTS such are stored */
+    FF_WRONG_LENGTH = 4,    /* a slice is not as long as its item */
+    FF_SINGULAR = 6,        /* the determinant equals 0 or is not finite */
+    FF_UNKNOWN_BITS = 7,    /* dirty bits above FF_DIRTY_ALL */
+    FF_NO_IMAGE = 9         /* the bytes are no state image */
 };
+
+/* The bytes of each item. */
+enum {
+    FF_IMAGE_BYTES = 24204,
+    FF_MATRIX_BYTES = 64,   /* 16 floats, row by row */
+    FF_MATERIAL_BYTES = 68, /* 17 floats: diffuse, ambient, specular, emissive (rgba each), power */
+    FF_LIGHT_BYTES = 104    /* the type, then 25 floats: diffuse, specular, ambient (rgba each), position, direction
+                               (xyz each), range, falloff, attenuation 0 to 2, theta, phi */
+};
+
+/* Transform states, by Direct3D's names without D3D. */
+enum {
+    FF_TS_VIEW = 2,
+    FF_TS_PROJECTION = 3,
+    FF_TS_TEXTURE0 = 16, /* to FF_TS_TEXTURE0 + 7 */
+    FF_TS_WORLD = 256    /* the world matrix i of 0 to 255 is FF_TS_WORLD + i */
+};
+
+/* Types of lights that light. */
+enum { FF_LIGHT_POINT = 1, FF_LIGHT_SPOT = 2, FF_LIGHT_DIRECTIONAL = 3 };
+
+/* How many lights can be stored from index 8 on. */
+enum { FF_OVERFLOW_LIGHTS = 56 };
+
+/* The sections of the shader's constants that a change leaves stale. */
+enum {
+    FF_DIRTY_WV = 1,
+    FF_DIRTY_PROJ = 2,
+    FF_DIRTY_MATERIAL = 4,
+    FF_DIRTY_LIGHTS = 8,
+    FF_DIRTY_PALETTE = 16,
+    FF_DIRTY_TT = 32,
+    FF_DIRTY_ALL = 63
+};
+
+/* What an answer means, in words. */
+static inline const char *ff_refusal_words(uint32_t answer) {
+    switch (answer) {
+    case FF_ACCEPTED:
+        return "accepted";
+    case FF_UNKNOWN_STATE:
+        return "no transform has this state number";
+    case FF_UNDEFINED_LIGHT:
+        return "no light is defined at this index";
+    case FF_LIGHTS_FULL:
+        return "no room for another light of index 8 or more";
+    case FF_WRONG_LENGTH:
+        return "a slice has the wrong length";
+    case FF_SINGULAR:
+        return "the matrix has no inverse";
+    case FF_UNKNOWN_BITS:
+        return "dirty bits above the six";
+    case FF_NO_IMAGE:
+        return "the bytes are no state image";
+    default:
+        return "not an answer of this library";
+    }
+}
+
+/* Images */
+
+/* Writes the image of a fresh state: identity matrices, a material of zeros, no light, all sections dirty.
+ * What the bytes held before does not matter. Refuses 4. */
+uint32_t ff_image_fresh(uint8_t *image, size_t image_len);
+
+/* Whether the bytes are an image. Refuses 9. */
+uint32_t ff_image_check(const uint8_t *image, size_t image_len);
+
+/* Transforms */
+
+/* Stores a matrix. Dirties, also where the value is equal: the view WV, PALETTE and LIGHTS; the
+ * projection PROJ; a texture matrix TT; world matrix 0 WV and PALETTE; the others PALETTE. Refuses 9, 1, 4. */
+uint32_t ff_set_transform(uint8_t *image, size_t image_len, uint32_t state, const uint8_t *matrix, size_t matrix_len);
+
+/* Stores stored x argument, and dirties as ff_set_transform does. Refuses 9, 1, 4. */
+uint32_t ff_multiply_transform(uint8_t *image, size_t image_len, uint32_t state, const uint8_t *matrix,
+                               size_t matrix_len);
+
+/* The stored matrix. Refuses 9, 1, 4. */
+uint32_t ff_transform(const uint8_t *image, size_t image_len, uint32_t state, uint8_t *out, size_t out_len);
+
+/* The highest world matrix ever set or multiplied, plus 1: from 1 to 256. Refuses 9. */
+uint32_t ff_world_palette_used(const uint8_t *image, size_t image_len, uint32_t *out);
+
+/* world matrix 0 x view x projection. Refuses 9, 4. */
+uint32_t ff_world_view_projection(const uint8_t *image, size_t image_len, uint8_t *out, size_t out_len);
+
+/* Material */
+
+/* Dirties MATERIAL. Refuses 9, 4. */
+uint32_t ff_set_material(uint8_t *image, size_t image_len, const uint8_t *material, size_t material_len);
+
+/* Refuses 9, 4. */
+uint32_t ff_material(const uint8_t *image, size_t image_len, uint8_t *out, size_t out_len);
+
+/* Lights, at any index */
+
+/* Defines a light; its enable stays, off where it is new. A type other than 1, 2 and 3 is stored and lights
+ * nothing. Dirties LIGHTS. Refuses 9, 3, 4. */
+uint32_t ff_set_light_at(uint8_t *image, size_t image_len, uint32_t index, const uint8_t *light, size_t light_len);
+
+/* Enables a light by any number but 0, disables it by 0. Where none is defined this defines the default one:
+ * directional, diffuse 1,1,1,0, direction 0,0,1, all else 0. Dirties LIGHTS. Refuses 9, 3. */
+uint32_t ff_set_light_enabled_at(uint8_t *image, size_t image_len, uint32_t index, uint32_t enabled);
+
+/* Refuses 9, 2, 4. */
+uint32_t ff_get_light_at(const uint8_t *image, size_t image_len, uint32_t index, uint8_t *out, size_t out_len);
+
+/* 1 or 0. Refuses 9. */
+uint32_t ff_is_light_enabled_at(const uint8_t *image, size_t image_len, uint32_t index, uint32_t *out);
+uint32_t ff_is_light_defined_at(const uint8_t *image, size_t image_len, uint32_t index, uint32_t *out);
+
+/* What of the lights a shader's key depends on, as bytes from the lowest: the masks active, directional and spot of the
+ * slots 0 to 7, and 0; once a light from index 8 on is stored, those of ff_compacted_light_masks, and 1. Refuses 9. */
+uint32_t ff_vs_source_light_inputs(const uint8_t *image, size_t image_len, uint32_t *out);
+
+/* The masks active, directional and spot of the lights that light, eight at most, packed by ascending index; the last
+ * byte is 0. The first is what a key's light_active_mask must be. Refuses 9. */
+uint32_t ff_compacted_light_masks(const uint8_t *image, size_t image_len, uint32_t *out);
+
+/* Dirty sections */
+
+/* Adds bits. Refuses 9, 7. */
+uint32_t ff_mark_ff_vs_dirty(uint8_t *image, size_t image_len, uint32_t bits);
+
+/* Answers with the bits and clears them. Refuses 9. */
+uint32_t ff_take_ff_vs_dirty(uint8_t *image, size_t image_len, uint32_t *out);
+
+/* Arithmetic, without an image */
 
 /* a x b, each sum of products from -0.0 left to right, nothing fused. Refuses 4. */
 uint32_t ff_mat_mul(const uint8_t *a, size_t a_len, const uint8_t *b, size_t b_len, uint8_t *out, size_t out_len);
@@ -31,7 +173,7 @@ uint32_t ff_mat_mul(const uint8_t *a, size_t a_len, const uint8_t *b, size_t b_l
 /* Refuses 4. */
 uint32_t ff_transpose(const uint8_t *m, size_t m_len, uint8_t *out, size_t out_len);
 
-/* Refuses 4, then 6. */
+/* Refuses 4, 6. */
 uint32_t ff_inverse(const uint8_t *m, size_t m_len, uint8_t *out, size_t out_len);
 
 /* Float bits in, float bits out: IEEE 754's square root, and the stand-in cosine. */
