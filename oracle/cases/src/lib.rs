@@ -4,6 +4,7 @@
 pub mod answers;
 pub mod call;
 pub mod damage;
+pub mod edges;
 pub mod floats;
 pub mod image;
 pub mod lists;

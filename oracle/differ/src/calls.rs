@@ -5,6 +5,7 @@ use std::thread;
 use std::time::Duration;
 
 use cases::call::{Call, NAMES};
+use cases::edges::edges;
 use cases::image::{self, REASONS};
 use cases::lists::{LENGTH, list};
 use cases::model::Output;
@@ -189,15 +190,11 @@ fn run_list(
     None
 }
 
-fn difference(host: Host, seed: u64, number: u64) -> Difference {
-    let least = shrink(list(seed, number), |calls| {
-        first_unlike(host, calls).map(|(at, _)| at)
-    });
+fn difference(host: Host, what: &str, calls: Vec<Call>) -> Difference {
+    let least = shrink(calls, |calls| first_unlike(host, calls).map(|(at, _)| at));
     let (at, found) = first_unlike(host, &least).expect("a list that fails was kept");
     let call = least[at].name.form().c_name;
-    let mut text = format!(
-        "difference: {call}, seed {seed}, list {number}; smallest list, on a fresh image:\n"
-    );
+    let mut text = format!("difference: {call}, {what}; smallest list, on a fresh image:\n");
     for call in &least {
         if let Some(damage) = &call.damage {
             for line in damage.to_string().lines() {
@@ -210,9 +207,19 @@ fn difference(host: Host, seed: u64, number: u64) -> Difference {
     Difference { call, text }
 }
 
+/// The edges, which are the same for every seed.
+fn edge_lists(host: Host, tally: &mut Tally) -> Outcome {
+    for (number, calls) in edges().into_iter().enumerate() {
+        if run_list(host, &calls, number, tally).is_some() {
+            return Err(difference(host, &format!("edges, list {number}"), calls));
+        }
+    }
+    Ok(())
+}
+
 /// At least `count` calls, in lists of `LENGTH`, on two threads. Of the lists that fail the first
 /// is told.
-pub fn calls(run: &mut Run, host: Host, count: u64) -> Outcome {
+fn random_lists(run: &mut Run, host: Host, count: u64, tally: &mut Tally) -> Outcome {
     let lists = count.div_ceil(LENGTH as u64);
     let seed = run.seed;
     let next = AtomicU64::new(0);
@@ -236,16 +243,25 @@ pub fn calls(run: &mut Run, host: Host, count: u64) -> Outcome {
         });
         while workers.iter().any(|worker| !worker.is_finished()) {
             thread::sleep(Duration::from_millis(10));
-            run.progress_of(
-                "calls",
-                next.load(Ordering::Relaxed).min(lists) * LENGTH as u64,
-                count,
-            );
+            let done = next.load(Ordering::Relaxed).min(lists);
+            run.progress_of("calls", done * LENGTH as u64, count);
         }
         workers.map(|worker| worker.join().expect("the model agrees with the Rust"))
     });
-    let mut tally = Tally::default();
     tallies.iter().for_each(|other| tally.add(other));
+    let least = least.into_inner();
+    if least == lists {
+        return Ok(());
+    }
+    let what = format!("seed {seed}, list {least}");
+    Err(difference(host, &what, list(seed, least)))
+}
+
+/// The edges, then at least `count` calls in random lists.
+pub fn calls(run: &mut Run, host: Host, count: u64) -> Outcome {
+    let mut tally = Tally::default();
+    let outcome =
+        edge_lists(host, &mut tally).and_then(|()| random_lists(run, host, count, &mut tally));
     for &name in NAMES {
         for (status, &count) in tally.statuses[name as usize].iter().enumerate() {
             run.count(name.form().c_name, status as u32, count);
@@ -255,9 +271,5 @@ pub fn calls(run: &mut Run, host: Host, count: u64) -> Outcome {
     for ((_, words), count) in REASONS.iter().zip(tally.reasons) {
         run.note(format!("  {words:<40}{count:>12}"));
     }
-    let least = least.into_inner();
-    if least < lists {
-        return Err(difference(host, seed, least));
-    }
-    tally.unmet()
+    outcome.and_then(|()| tally.unmet())
 }
