@@ -1,4 +1,4 @@
-//! Links our loops.
+//! Links our loops, and the library itself.
 
 use std::env;
 use std::path::PathBuf;
@@ -7,9 +7,11 @@ fn main() {
     let manifest = PathBuf::from(env::var_os("CARGO_MANIFEST_DIR").expect("set by cargo"));
     let folder = manifest.join("../target/staticlib");
     println!("cargo:rustc-link-search=native={}", folder.display());
-    for name in ["bench_loops", "bench_state"] {
+    for name in ["bench_loops", "bench_state", "host"] {
         let archive = folder.join(format!("lib{name}.a"));
         println!("cargo:rerun-if-changed={}", archive.display());
         println!("cargo:rustc-link-lib=static={name}");
     }
+    // The cosine's `%` is C's fmodf.
+    println!("cargo:rustc-link-lib=m");
 }

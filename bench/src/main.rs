@@ -1,5 +1,6 @@
-//! Times our calls beside the Rust's, and prints a table.
+//! Times our calls beside the Rust's, and the host's calls beside a copy of an image; prints two tables.
 
+mod host;
 mod inputs;
 mod measure;
 mod ours;
@@ -30,6 +31,14 @@ const PRODUCT: Option<f64> = Some(1.2);
 const ROOT: Option<f64> = Some(12.0);
 
 fn main() {
+    if std::env::args().nth(1).as_deref() != Some("host") {
+        beside_the_rust();
+        println!();
+    }
+    host::table();
+}
+
+fn beside_the_rust() {
     let mut random = Random::new(0x9E37_79B9_7F4A_7C15);
     let roots: Vec<f32> = (0..FLOATS).map(|_| random.positive()).collect();
     let links: Vec<f32> = (0..FLOATS).map(|_| random.below_four()).collect();
