@@ -1,5 +1,8 @@
 //! Writes a sample of the Rust's answers as two files that a program can replay: one operation a
-//! line in `stdin`, its answer at the same line of `stdout`. Our library takes no part.
+//! line in `stdin`, its answer at the same line of `stdout`. Our library takes no part. There are two
+//! samples: of the arithmetic, and of calls on a state image.
+
+mod calls;
 
 use std::fmt::Write;
 use std::path::Path;
@@ -163,25 +166,58 @@ fn inverses(sample: &mut Sample) {
     }
 }
 
-fn main() -> ExitCode {
-    let Some(folder) = std::env::args().nth(1) else {
-        eprintln!("oracle: list needs a folder");
-        return ExitCode::from(2);
-    };
+fn arithmetic() -> Sample {
     let mut sample = Sample::default();
     roots(&mut sample);
     cosines(&mut sample);
     products(&mut sample);
     transposes(&mut sample);
     inverses(&mut sample);
-    let folder = Path::new(&folder);
-    let written = std::fs::create_dir_all(folder)
-        .and_then(|()| std::fs::write(folder.join("stdin"), &sample.questions))
-        .and_then(|()| std::fs::write(folder.join("stdout"), &sample.answers));
-    if let Err(error) = written {
-        eprintln!("oracle: {}: {error}", folder.display());
-        return ExitCode::from(2);
+    sample
+}
+
+/// The calls on an image; each must meet each of its refusals.
+fn on_images() -> Result<Sample, String> {
+    let mut sample = Sample::default();
+    calls::calls(&mut sample);
+    let missing = calls::unmet(&sample);
+    if missing.is_empty() {
+        Ok(sample)
+    } else {
+        Err(format!("the sample lacks refusals:{missing}"))
     }
-    println!("oracle: {} lines written", sample.questions.lines().count());
-    ExitCode::SUCCESS
+}
+
+fn write(sample: &Sample, folder: &Path) -> Result<(), String> {
+    std::fs::create_dir_all(folder)
+        .and_then(|()| std::fs::write(folder.join("stdin"), &sample.questions))
+        .and_then(|()| std::fs::write(folder.join("stdout"), &sample.answers))
+        .map_err(|error| format!("{}: {error}", folder.display()))
+}
+
+fn run() -> Result<usize, String> {
+    let arguments: Vec<String> = std::env::args().skip(1).collect();
+    let [command, folder] = &arguments[..] else {
+        return Err("list and call-list need a folder".to_string());
+    };
+    let sample = match command.as_str() {
+        "list" => arithmetic(),
+        "call-list" => on_images()?,
+        other => return Err(format!("no list {other}")),
+    };
+    write(&sample, Path::new(folder))?;
+    Ok(sample.questions.lines().count())
+}
+
+fn main() -> ExitCode {
+    match run() {
+        Ok(lines) => {
+            println!("oracle: {lines} lines written");
+            ExitCode::SUCCESS
+        }
+        Err(message) => {
+            eprintln!("oracle: {message}");
+            ExitCode::from(2)
+        }
+    }
 }
