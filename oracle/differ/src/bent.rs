@@ -5,7 +5,7 @@ use cases::floats::{HALF_TURN, NAN, QUARTER_TURN, TURN, random_cosine, with_one_
 use cases::matrices::{KINDS, factors};
 use cases::random::Random;
 
-use crate::bend::Bend;
+use crate::bends::Bend;
 
 /// Document 01's cosine with one thing bent.
 pub fn cosine(bits: u32, bend: Option<Bend>) -> u32 {

@@ -2,8 +2,8 @@
 
 use cases::call::{Call, Name};
 
-use crate::bend::{self, Bend};
-use crate::bend_calls;
+use crate::bends::Bend;
+use crate::{bend, bend_calls};
 
 /// The calls by their C names.
 pub mod raw {

@@ -3,6 +3,7 @@
 
 mod bend;
 mod bend_calls;
+mod bends;
 mod bent;
 mod bytes;
 mod calls;
@@ -52,7 +53,7 @@ fn arguments() -> Result<Arguments, String> {
             "--seed" => arguments.seed = number()?,
             "--count" => arguments.count = Some(number()?),
             "--bend" => {
-                let bend = bend::named(&value).ok_or(format!("no bend {value}"))?;
+                let bend = bends::named(&value).ok_or(format!("no bend {value}"))?;
                 arguments.host = Host { bend: Some(bend) };
             }
             _ => return Err(format!("no flag {flag}")),

@@ -3,7 +3,7 @@
 
 use std::process::Command;
 
-use crate::bend::BENDS;
+use crate::bends::BENDS;
 use crate::bent;
 
 /// Enough for every bend, and little enough for a second each.
