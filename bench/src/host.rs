@@ -14,8 +14,10 @@ const LIGHT: usize = 104;
 /// The most that a call that only reads may take, in copies.
 const READING: f64 = 15.0;
 
-/// Turns of a loop on a state by value.
-const TURNS: u32 = 256;
+/// Turns of a loop on a state by value: few where a turn copies the state, more where it copies less, so that
+/// making the state counts for little.
+const COPIES: u32 = 256;
+const READS: u32 = 16_384;
 
 /// The transform that is set, and lights in a slot and in the table.
 const WORLD: u32 = 256;
@@ -72,22 +74,15 @@ fn calls(lights: u32) {
     let n: *mut u32 = &mut number;
     let overflow = if lights == 0 { SLOT } else { OVERFLOW };
 
-    let by_value = |loop_: &dyn Fn()| Some(alone(loop_) / f64::from(TURNS));
-    let set_transform = by_value(&|| {
-        black_box(ours::set_transform(TURNS, black_box(1.0)));
+    let set_transform = by_value(COPIES, |n| ours::set_transform(n, black_box(1.0)));
+    let set_light = by_value(COPIES, |n| {
+        ours::set_light_at(n, black_box(overflow), black_box(1.0))
     });
-    let set_light = by_value(&|| {
-        black_box(ours::set_light_at(
-            TURNS,
-            black_box(overflow),
-            black_box(1.0),
-        ));
+    let enable = by_value(COPIES, |n| {
+        ours::set_light_enabled_at(n, black_box(overflow))
     });
-    let enable = by_value(&|| {
-        black_box(ours::set_light_enabled_at(TURNS, black_box(overflow)));
-    });
-    let inputs = by_value(&|| {
-        black_box(ours::vs_source_light_inputs(TURNS, black_box(overflow)));
+    let inputs = by_value(READS, |n| {
+        ours::vs_source_light_inputs(n, black_box(overflow))
     });
 
     let read = Some(READING);
@@ -127,6 +122,14 @@ fn calls(lights: u32) {
             raw::ff_image_fresh(i, IMAGE)
         });
     }
+}
+
+/// A call of a loop on a state by value, in nanoseconds.
+fn by_value<T>(turns: u32, calls: impl Fn(u32) -> T) -> Option<f64> {
+    let time = alone(|| {
+        black_box(calls(black_box(turns)));
+    });
+    Some(time / f64::from(turns))
 }
 
 fn row(name: &str, lights: u32, bound: Option<f64>, by_value: Option<f64>, call: impl Fn() -> u32) {
