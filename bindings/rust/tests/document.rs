@@ -2,7 +2,7 @@
 
 use ff_state::{
     ALL_DIRTY, Color, D3DLIGHT_POINT, D3DLIGHT_SPOT, D3DTS_PROJECTION, D3DTS_TEXTURE0, D3DTS_VIEW,
-    D3DTS_WORLD, FfImage, Light, LightMasks, Material, Matrix, OVERFLOW_LIGHTS, Refusal,
+    D3DTS_WORLD, FfImage, Light, LightMasks, Material, Matrix, OVERFLOW_LIGHTS, Refusal, Vector,
 };
 
 fn moved(x: f32, y: f32, z: f32) -> Matrix {
@@ -183,6 +183,65 @@ fn lights_are_read_back() {
         assert!(state.is_light_defined_at(index));
     }
     assert_eq!(state.compacted_light_masks().active, 0);
+}
+
+/// "Light: type, diffuse, specular, ambient (rgba each), position, direction, range, falloff, attenuation 0 to 2,
+/// theta, phi", and a material in the order of the image.
+#[test]
+fn records_cross_in_document_01s_orders() {
+    let color = |first: f32| Color {
+        r: first,
+        g: first + 1.0,
+        b: first + 2.0,
+        a: first + 3.0,
+    };
+    let vector = |first: f32| Vector {
+        x: first,
+        y: first + 1.0,
+        z: first + 2.0,
+    };
+    let floats = |bytes: &[u8]| -> Vec<f32> {
+        let fours = bytes.as_chunks().0.iter();
+        fours.map(|four| f32::from_le_bytes(*four)).collect()
+    };
+    let counted = |count: u32| -> Vec<f32> { (1..=count).map(|i| i as f32).collect() };
+
+    let light = Light {
+        type_: 0x0102_0304,
+        diffuse: color(1.0),
+        specular: color(5.0),
+        ambient: color(9.0),
+        position: vector(13.0),
+        direction: vector(16.0),
+        range: 19.0,
+        falloff: 20.0,
+        attenuation: [21.0, 22.0, 23.0],
+        theta: 24.0,
+        phi: 25.0,
+    };
+    let bytes = light.to_bytes();
+    assert_eq!(bytes[..4], [4, 3, 2, 1]);
+    assert_eq!(floats(&bytes[4..]), counted(25));
+    assert_eq!(Light::from_bytes(&bytes), light);
+
+    let material = Material {
+        diffuse: color(1.0),
+        ambient: color(5.0),
+        specular: color(9.0),
+        emissive: color(13.0),
+        power: 17.0,
+    };
+    let bytes = material.to_bytes();
+    assert_eq!(floats(&bytes), counted(17));
+    assert_eq!(Material::from_bytes(&bytes), material);
+
+    let mut matrix = Matrix::IDENTITY;
+    for (i, entry) in matrix.m.as_flattened_mut().iter_mut().enumerate() {
+        *entry = (i + 1) as f32;
+    }
+    let bytes = matrix.to_bytes();
+    assert_eq!(floats(&bytes), counted(16));
+    assert_eq!(Matrix::from_bytes(&bytes), matrix);
 }
 
 #[test]
