@@ -18,6 +18,14 @@ pub struct Judged {
     pub ran: bool,
 }
 
+impl Judged {
+    /// 0, or the number of the refusal.
+    #[must_use]
+    pub fn status(&self) -> u32 {
+        self.answer.as_ref().err().map_or(0, |&number| number)
+    }
+}
+
 impl Default for World {
     fn default() -> Self {
         Self::fresh()

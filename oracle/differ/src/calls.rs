@@ -4,73 +4,65 @@ use std::sync::atomic::{AtomicU64, Ordering};
 use std::thread;
 use std::time::Duration;
 
-use cases::call::{Call, NAMES};
+use cases::call::Call;
 use cases::edges::edges;
-use cases::image::{self, REASONS};
+use cases::image;
 use cases::lists::{LENGTH, list};
-use cases::model::Output;
+use cases::model::{Answer, Output};
 use cases::world::{Judged, World};
 
 use crate::guarded::Guarded;
 use crate::host::{Host, Lent};
 use crate::report::{Difference, Outcome, Run};
 use crate::shrink_list::shrink;
+use crate::tally::Tally;
 
 const THREADS: usize = 2;
 /// What a lent number and those beside it hold before a call.
 const NUMBER: u32 = 0xA5A5_5A5A;
 
-/// How often each call met each refusal, 0 for none, and how often each reason for 9 stood alone.
-#[derive(Default)]
-struct Tally {
-    statuses: [[u64; 10]; NAMES.len()],
-    reasons: [u64; REASONS.len()],
+/// What a call is handed beside the image: its item, a lent slice, and a lent number between two others.
+#[derive(Clone)]
+struct Handed {
+    given: Guarded,
+    out: Guarded,
+    numbers: [u32; 3],
 }
 
-impl Tally {
-    fn count(&mut self, call: &Call, judged: &Judged) {
-        let status = judged.answer.as_ref().err().map_or(0, |&number| number);
-        self.statuses[call.name as usize][status as usize] += 1;
-        if let [reason] = judged.reasons[..] {
-            self.reasons[reason as usize] += 1;
+impl Handed {
+    fn new(call: &Call, shift: usize) -> Self {
+        Self {
+            given: Guarded::holding(&call.given, shift / 4),
+            out: Guarded::new(call.lent, shift / 16),
+            numbers: [NUMBER; 3],
         }
     }
 
-    fn add(&mut self, other: &Self) {
-        let statuses = self.statuses.as_flattened_mut().iter_mut();
-        for (sum, count) in statuses.zip(other.statuses.as_flattened()) {
-            *sum += count;
+    /// The same after a call with this answer.
+    fn answered(mut self, answer: &Answer) -> Self {
+        match answer {
+            Ok(Output::Bytes(bytes)) => self.out.slice_mut().copy_from_slice(bytes),
+            Ok(Output::Number(number)) => self.numbers[1] = *number,
+            Ok(Output::Nothing) | Err(_) => {}
         }
-        for (sum, count) in self.reasons.iter_mut().zip(other.reasons) {
-            *sum += count;
-        }
+        self
     }
 
-    /// A refusal that can occur, or a reason that can stand alone, and was never met.
-    fn unmet(&self) -> Outcome {
-        for &name in NAMES {
-            let form = name.form();
-            let unmet = [0]
-                .iter()
-                .chain(form.refusals)
-                .find(|&&status| self.statuses[name as usize][status as usize] == 0);
-            if let Some(status) = unmet {
-                return Err(Difference {
-                    call: form.c_name,
-                    text: format!("{} never met status {status}: raise --count\n", form.c_name),
-                });
-            }
-        }
-        match REASONS
-            .iter()
-            .zip(self.reasons)
-            .find(|(_, count)| *count == 0)
-        {
-            None => Ok(()),
-            Some(((_, words), _)) => Err(Difference {
-                call: "an image",
-                text: format!("no image was refused for this alone: {words}: raise --count\n"),
-            }),
+    fn unlike(&self, expected: &Self) -> Option<String> {
+        if self.out != expected.out {
+            let [expected, ours] = [expected, self].map(|handed| hex(handed.out.slice()));
+            Some(format!(
+                "the lent slice, or the bytes around it: expected {expected}, ours {ours}"
+            ))
+        } else if self.numbers != expected.numbers {
+            Some(format!(
+                "the lent number, or those beside it: expected {:08x?}, ours {:08x?}",
+                expected.numbers, self.numbers
+            ))
+        } else if self.given != expected.given {
+            Some("the bytes of an argument".to_string())
+        } else {
+            None
         }
     }
 }
@@ -91,54 +83,33 @@ fn step(
     });
     let before = damaged.clone();
     let judged = world.judge(call, before.as_ref().map(Guarded::slice));
+    let mut handed = Handed::new(call, shift);
+    let expected = handed.clone().answered(&judged.answer);
 
-    let given = Guarded::holding(&call.given, shift / 4);
-    let mut out = Guarded::new(call.lent, shift / 16);
-    let mut expected_out = out.clone();
-    let mut numbers = [NUMBER; 3];
-    let mut expected_numbers = numbers;
-    match &judged.answer {
-        Ok(Output::Bytes(bytes)) => expected_out.slice_mut().copy_from_slice(bytes),
-        Ok(Output::Number(number)) => expected_numbers[1] = *number,
-        Ok(Output::Nothing) | Err(_) => {}
-    }
-    let given_after = given.clone();
     let image = damaged.as_mut().unwrap_or(running);
-    let ours = host.call(
+    let status = host.call(
         call,
         Lent {
             image: image.slice_mut(),
-            given: given_after.slice(),
-            out: out.slice_mut(),
-            number: &mut numbers[1],
+            given: handed.given.slice(),
+            out: handed.out.slice_mut(),
+            number: &mut handed.numbers[1],
         },
     );
 
-    let status = judged.answer.as_ref().err().map_or(0, |&number| number);
     let expected_image = match &before {
         Some(before) if !judged.ran => before.slice(),
         _ => world.image(),
     };
-    let found = if ours != status {
-        Some(format!("status: expected {status}, ours {ours}"))
+    let found = if status != judged.status() {
+        let expected = judged.status();
+        Some(format!("status: expected {expected}, ours {status}"))
     } else if image.slice() != expected_image {
         Some(unlike_image(image.slice(), expected_image))
     } else if !image.kept() {
         Some("the bytes around the image".to_string())
-    } else if out != expected_out {
-        Some(format!(
-            "the lent slice, or the bytes around it: expected {}, ours {}",
-            hex(expected_out.slice()),
-            hex(out.slice())
-        ))
-    } else if numbers != expected_numbers {
-        Some(format!(
-            "the lent number, or those beside it: expected {expected_numbers:08x?}, ours {numbers:08x?}"
-        ))
-    } else if given != given_after {
-        Some("the bytes of an argument".to_string())
     } else {
-        None
+        handed.unlike(&expected)
     };
     if let Some(damaged) = damaged
         && judged.ran
@@ -164,10 +135,7 @@ fn hex(bytes: &[u8]) -> String {
 }
 
 /// Runs a list; the answer is the place of the first call that is unlike, and what is unlike there.
-pub fn first_unlike(host: Host, calls: &[Call]) -> Option<(usize, String)> {
-    run_list(host, calls, 0, &mut Tally::default())
-}
-
+/// `shift` moves the slices off alignment.
 fn run_list(
     host: Host,
     calls: &[Call],
@@ -190,9 +158,10 @@ fn run_list(
     None
 }
 
-fn difference(host: Host, what: &str, calls: Vec<Call>) -> Difference {
-    let least = shrink(calls, |calls| first_unlike(host, calls).map(|(at, _)| at));
-    let (at, found) = first_unlike(host, &least).expect("a list that fails was kept");
+fn difference(host: Host, what: &str, calls: Vec<Call>, shift: usize) -> Difference {
+    let unlike = |calls: &[Call]| run_list(host, calls, shift, &mut Tally::default());
+    let least = shrink(calls, |calls| unlike(calls).map(|(at, _)| at));
+    let (at, found) = unlike(&least).expect("a list that fails was kept");
     let call = least[at].name.form().c_name;
     let mut text = format!("difference: {call}, {what}; smallest list, on a fresh image:\n");
     for call in &least {
@@ -211,7 +180,12 @@ fn difference(host: Host, what: &str, calls: Vec<Call>) -> Difference {
 fn edge_lists(host: Host, tally: &mut Tally) -> Outcome {
     for (number, calls) in edges().into_iter().enumerate() {
         if run_list(host, &calls, number, tally).is_some() {
-            return Err(difference(host, &format!("edges, list {number}"), calls));
+            return Err(difference(
+                host,
+                &format!("edges, list {number}"),
+                calls,
+                number,
+            ));
         }
     }
     Ok(())
@@ -254,7 +228,7 @@ fn random_lists(run: &mut Run, host: Host, count: u64, tally: &mut Tally) -> Out
         return Ok(());
     }
     let what = format!("seed {seed}, list {least}");
-    Err(difference(host, &what, list(seed, least)))
+    Err(difference(host, &what, list(seed, least), least as usize))
 }
 
 /// The edges, then at least `count` calls in random lists.
@@ -262,14 +236,6 @@ pub fn calls(run: &mut Run, host: Host, count: u64) -> Outcome {
     let mut tally = Tally::default();
     let outcome =
         edge_lists(host, &mut tally).and_then(|()| random_lists(run, host, count, &mut tally));
-    for &name in NAMES {
-        for (status, &count) in tally.statuses[name as usize].iter().enumerate() {
-            run.count(name.form().c_name, status as u32, count);
-        }
-    }
-    run.note("images refused 9 for one reason alone:".to_string());
-    for ((_, words), count) in REASONS.iter().zip(tally.reasons) {
-        run.note(format!("  {words:<40}{count:>12}"));
-    }
+    tally.tell(run);
     outcome.and_then(|()| tally.unmet())
 }

@@ -16,6 +16,7 @@ mod scalars;
 mod self_test;
 mod shrink;
 mod shrink_list;
+mod tally;
 mod vectors;
 
 use std::hint::black_box;

@@ -101,8 +101,7 @@ impl Calls<'_> {
         if judged.ran {
             self.buffer[..BYTES].copy_from_slice(self.world.image());
         }
-        let status = judged.answer.as_ref().err().map_or(0, |&number| number);
-        let mut answer = vec![status, checksum(&self.buffer)];
+        let mut answer = vec![judged.status(), checksum(&self.buffer)];
         match (judged.answer, call.name.form().gives) {
             (Ok(Output::Bytes(bytes)), _) => answer.extend(words(&bytes)),
             (Ok(Output::Number(number)), _) => answer.push(number),
