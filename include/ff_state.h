@@ -14,7 +14,7 @@
  *
  * No pointer is null, also at length 0; a uint32_t pointer is aligned; a slice that is written overlaps
  * no other argument. No call allocates, blocks or keeps a pointer, and calls on different images may run
- * on different threads. Link with -lm.
+ * on different threads. A call that reads an image takes up to about 160 KB of stack. Link with -lm.
  */
 #ifndef FF_STATE_H
 #define FF_STATE_H
