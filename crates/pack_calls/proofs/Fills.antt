@@ -1,0 +1,56 @@
+-- The returns of a fill: 4 for another length, and past it what the section's packing answers.
+-- Assumes nothing.
+use Prim.Native.Nat.{ℕ, zero, suc, _*_, _<_, _≤_}
+use native.Mathlib.Omega.{arith}
+use mathlib.Core.Path.{_≡_, refl, sym, ap, _∙_}
+use mathlib.Core.Bool.{false}
+use mathlib.Core.List.{List}
+use lib.Ieee.{Float}
+use lib.ListN.{length, take}
+use lib.Seq.{length-take-le}
+use Rattle.ff_state.specs.declared.sections.Section.{Section}
+use Rattle.ff_state.specs.declared.state.FfState.{FfState}
+use Rattle.image.specs.Read.{stateOf}
+use Rattle.image_parts.specs.Reasons.{refused}
+use Rattle.calls.specs.Answer.{answered, orNext}
+use Rattle.calls.specs.Call.{callCode, reading}
+use Rattle.calls.proofs.Answers.{length-right, length-wrong}
+use Rattle.sections.specs.Key.{noTextures}
+use Rattle.sections.specs.Shape.{sectionShape, sectionRows}
+use Rattle.sections.proofs.Tiles.{fits-mirror}
+use Rattle.sections.specs.declared.key.FfVsKey.{FfVsKey}
+use Rattle.sections.specs.declared.shape.SectionShape.{SectionShape}
+use Rattle.pack_calls.specs.Fill.{maskNumber, fillBytes, fillNumber, ffFillSection}
+
+or-none : (n : ℕ) → orNext n 0 ≡ n
+unfolding orNext
+or-none zero = refl
+or-none (suc n) = refl
+
+module _ (σ : Section) (k : FfVsKey) {h : SectionShape} (is : h ≡ sectionShape σ k noTextures) where
+  four-rows : 4 * (4 * h .rows) ≡ 16 * sectionRows σ k noTextures
+  four-rows = omega (arith, ap (λ (t : SectionShape). t .rows) is)
+
+  pub fill-fits : k .«vertex_blend_count» < 256 → 4 * h .rows ≤ 4460
+  fill-fits byte = omega (arith, ap (λ (t : SectionShape). t .rows) is, fits-mirror k noTextures byte σ)
+
+  -- a buffer of the mirror's floats has the section's at its front
+  pub front : k .«vertex_blend_count» < 256 → (xs : List Float) → length xs ≡ 4460 → length (take (4 * h .rows) xs) ≡ 4 * h .rows
+  front byte xs e = length-take-le (4 * h .rows) xs (omega (arith, e, fill-fits byte))
+
+  pub front-rows : k .«vertex_blend_count» < 256 → (xs : List Float) → length xs ≡ 4460 → length (take (4 * h .rows) xs) ≡ 4 * sectionRows σ k noTextures
+  front-rows byte xs e = front byte xs e ∙ ap (λ (t : SectionShape). 4 * t .rows) is
+
+  module _ (dst : List ℕ) where
+    pub fill-wrong : (s : FfState) → (length dst ≡ 4 * (4 * h .rows) → ⊥) → fillNumber σ k dst s ≡ 4
+    unfolding fillNumber orNext
+    fill-wrong s n = rw (length-wrong (16 * sectionRows σ k noTextures) dst (λ e. n (e ∙ sym four-rows)))
+
+    pub fill-right : (s : FfState) → length dst ≡ 4 * (4 * h .rows) → fillNumber σ k dst s ≡ maskNumber σ k s
+    unfolding fillNumber orNext
+    fill-right s e = rw (length-right (16 * sectionRows σ k noTextures) dst (e ∙ four-rows))
+
+    pub fill-done : (image : List ℕ) → refused image ≡ false → length dst ≡ 4 * (4 * h .rows)
+        → answered (maskNumber σ k (stateOf image)) (fillBytes σ k (stateOf image)) dst ≡ ffFillSection σ image k dst
+    unfolding reading callCode
+    fill-done image r e = rw (r, fill-right (stateOf image) e, or-none (maskNumber σ k (stateOf image)))

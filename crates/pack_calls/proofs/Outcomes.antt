@@ -1,0 +1,49 @@
+-- What packing answers into floats of the section's length: the number of the mask, and where it is 0 the section's rows.
+-- Assumes nothing.
+use Prim.Native.Nat.{ℕ, _*_}
+use native.Mathlib.Omega.{arith}
+use mathlib.Core.Path.{_≡_, refl, ap, _∙_}
+use mathlib.Core.Bool.{Bool, true, false, cond}
+use mathlib.Core.List.{List}
+use lib.Ieee.{Float}
+use lib.ListN.{length}
+use borrow.Author.Tests.{eq-eqb}
+use Rattle.ff_state.specs.declared.sections.Section.{Section}
+use Rattle.ff_state.specs.declared.state.FfState.{FfState}
+use Rattle.sections.specs.Key.{noTextures}
+use Rattle.sections.specs.Shape.{sectionRows}
+use Rattle.sections.specs.declared.key.FfVsKey.{FfVsKey}
+use Rattle.packing.specs.Inputs.{maskAccepted, inputsOf}
+use Rattle.packing.specs.Pack.{Outcome, outcome, packInputs, packSection, packNumber, stateRows}
+use Rattle.packing.specs.declared.answer.PackAnswer.{PackAnswer}
+use Rattle.packing.specs.declared.answer.PackAnswer.the-variants.{Packed, WrongMask}
+use Rattle.pack_calls.specs.Fill.{maskNumber}
+
+-- the outcome past the length, by the mask
+abbrev byMask : Bool → List Float → List Float → Outcome
+byMask b rows fl = cond b (outcome Packed rows) (outcome WrongMask fl)
+
+number-by : (b : Bool) (rows fl : List Float) → packNumber (byMask b rows fl .answer) ≡ cond b 0 5
+unfolding packNumber
+number-by true rows fl = refl
+number-by false rows fl = refl
+
+rows-by : (b : Bool) (rows fl : List Float) → _≡_ {A = ℕ} (cond b 0 5) 0 → byMask b rows fl .floats ≡ rows
+rows-by true rows fl e = refl
+rows-by false rows fl e = absurd (omega (arith, e))
+
+module _ (σ : Section) (s : FfState) (k : FfVsKey) (fl : List Float) (long : length fl ≡ 4 * sectionRows σ k noTextures) where
+  past : packSection σ s k fl ≡ byMask (maskAccepted σ k (inputsOf s)) (stateRows σ s k) fl
+  unfolding packSection packInputs
+  past = rw (eq-eqb (length fl) (4 * sectionRows σ k noTextures) long)
+
+  module _ {a : PackAnswer} {xs : List Float} (e : outcome a xs ≡ packSection σ s k fl) where
+    pub number-is : packNumber a ≡ maskNumber σ k s
+    number-is =
+        ap (λ (o : Outcome). packNumber (o .answer)) (e ∙ past)
+        ∙ number-by (maskAccepted σ k (inputsOf s)) (stateRows σ s k) fl
+
+    pub rows-are : maskNumber σ k s ≡ 0 → xs ≡ stateRows σ s k
+    rows-are h =
+        ap (λ (o : Outcome). o .floats) (e ∙ past)
+        ∙ rows-by (maskAccepted σ k (inputsOf s)) (stateRows σ s k) fl h
