@@ -5,8 +5,10 @@ ghost use lib.ListN.{length};
 ghost use Rattle.calls.specs.Answer.{answer, answered};
 ghost use Rattle.sections.specs.Key.{noTextures};
 ghost use Rattle.sections.specs.Shape.{sectionRows};
+ghost use Rattle.pack_calls.specs.Key.{keyOf};
 ghost use Rattle.pack_calls.specs.Fill.{maskNumber, fillBytes, ffFillSection};
 use crate::floats::put_floats;
+use crate::key::key_of;
 use ff_state::FfState;
 use ff_state::Section;
 use image::state_of;
@@ -42,7 +44,7 @@ fn fill_bytes(section: Section, s: FfState, key: FfVsKey, floats: &mut [f32], ds
     }
 }
 
-pub fn fill_section(section: Section, image: &[u8], key: FfVsKey, dst: &mut [u8]) -> u32
+fn fill_keyed(section: Section, image: &[u8], key: FfVsKey, dst: &mut [u8]) -> u32
     ensures { λ r. ⌜ answer r (now (dst .exit)) ≡ ffFillSection section (now (image .entry)) key (now (dst .entry)) ⌝ }
 {
     if image_refused(image) {
@@ -56,4 +58,31 @@ pub fn fill_section(section: Section, image: &[u8], key: FfVsKey, dst: &mut [u8]
     let s = state_of(image);
     let mut floats = mirror_floats();
     fill_bytes(section, s, key, &mut floats[..n], dst)
+}
+
+// The key as seven numbers.
+pub fn fill_section(
+    section: Section,
+    image: &[u8],
+    has_rhw: u8,
+    lighting_enabled: u8,
+    specular_enable: u8,
+    vertex_blend_indexed: u8,
+    light_active_mask: u8,
+    fog_mode: u8,
+    vertex_blend_count: u8,
+    dst: &mut [u8],
+) -> u32
+    ensures { λ r. ⌜ answer r (now (dst .exit)) ≡ ffFillSection section (now (image .entry)) (keyOf «has_rhw» «lighting_enabled» «specular_enable» «vertex_blend_indexed» «light_active_mask» «fog_mode» «vertex_blend_count») (now (dst .entry)) ⌝ }
+{
+    let key = key_of(
+        has_rhw,
+        lighting_enabled,
+        specular_enable,
+        vertex_blend_indexed,
+        light_active_mask,
+        fog_mode,
+        vertex_blend_count,
+    );
+    fill_keyed(section, image, key, dst)
 }

@@ -1,7 +1,9 @@
 // How many rows: of a section, and of a draw.
 ghost use mathlib.Core.Path.{_≡_};
 ghost use Rattle.calls.specs.Answer.{answer};
+ghost use Rattle.pack_calls.specs.Key.{keyOf};
 ghost use Rattle.pack_calls.specs.RowCounts.{ffSectionRows, ffVsRowCount};
+use crate::key::key_of;
 use ff_state::Section;
 use image_parts::image_refused;
 use sections::FfVsKey;
@@ -9,7 +11,7 @@ use sections::NO_TEXTURES;
 use sections::ff_vs_row_count;
 use sections::section_shape;
 
-pub fn section_rows(section: Section, image: &[u8], key: FfVsKey, out: &mut u32) -> u32
+fn rows_keyed(section: Section, image: &[u8], key: FfVsKey, out: &mut u32) -> u32
     ensures { λ r. ⌜ answer r (now (out .exit)) ≡ ffSectionRows section (now (image .entry)) key (now (out .entry)) ⌝ }
 {
     if image_refused(image) {
@@ -20,7 +22,7 @@ pub fn section_rows(section: Section, image: &[u8], key: FfVsKey, out: &mut u32)
     0
 }
 
-pub fn vs_row_count(image: &[u8], key: FfVsKey, out: &mut u32) -> u32
+fn count_keyed(image: &[u8], key: FfVsKey, out: &mut u32) -> u32
     ensures { λ r. ⌜ answer r (now (out .exit)) ≡ ffVsRowCount (now (image .entry)) key (now (out .entry)) ⌝ }
 {
     if image_refused(image) {
@@ -29,4 +31,56 @@ pub fn vs_row_count(image: &[u8], key: FfVsKey, out: &mut u32) -> u32
     let n = ff_vs_row_count(key, NO_TEXTURES);
     *out = n as u32;
     0
+}
+
+// The key as seven numbers.
+pub fn section_rows(
+    section: Section,
+    image: &[u8],
+    has_rhw: u8,
+    lighting_enabled: u8,
+    specular_enable: u8,
+    vertex_blend_indexed: u8,
+    light_active_mask: u8,
+    fog_mode: u8,
+    vertex_blend_count: u8,
+    out: &mut u32,
+) -> u32
+    ensures { λ r. ⌜ answer r (now (out .exit)) ≡ ffSectionRows section (now (image .entry)) (keyOf «has_rhw» «lighting_enabled» «specular_enable» «vertex_blend_indexed» «light_active_mask» «fog_mode» «vertex_blend_count») (now (out .entry)) ⌝ }
+{
+    let key = key_of(
+        has_rhw,
+        lighting_enabled,
+        specular_enable,
+        vertex_blend_indexed,
+        light_active_mask,
+        fog_mode,
+        vertex_blend_count,
+    );
+    rows_keyed(section, image, key, out)
+}
+
+pub fn vs_row_count(
+    image: &[u8],
+    has_rhw: u8,
+    lighting_enabled: u8,
+    specular_enable: u8,
+    vertex_blend_indexed: u8,
+    light_active_mask: u8,
+    fog_mode: u8,
+    vertex_blend_count: u8,
+    out: &mut u32,
+) -> u32
+    ensures { λ r. ⌜ answer r (now (out .exit)) ≡ ffVsRowCount (now (image .entry)) (keyOf «has_rhw» «lighting_enabled» «specular_enable» «vertex_blend_indexed» «light_active_mask» «fog_mode» «vertex_blend_count») (now (out .entry)) ⌝ }
+{
+    let key = key_of(
+        has_rhw,
+        lighting_enabled,
+        specular_enable,
+        vertex_blend_indexed,
+        light_active_mask,
+        fog_mode,
+        vertex_blend_count,
+    );
+    count_keyed(image, key, out)
 }

@@ -1,27 +1,22 @@
--- `pack_calls::row_counts::section_rows` meets its contract. Past 9 the call never refuses.
+-- `pack_calls::row_counts::section_rows` meets its contract: the key is what the seven numbers say.
 -- Assumes nothing.
-use mathlib.Core.Path.{refl, sym, ap, _∙_}
-use Rattle.sections.specs.declared.shape.SectionShape.{SectionShape}
-use Rattle.calls.proofs.Calls.{reading-nine, reading-done}
+use mathlib.Core.Path.{ap, _∙_}
+use denote.Ref.{now}
+use Rattle.pack_calls.specs.RowCounts.{ffSectionRows}
 use borrow.Author.Needs.{needs}
 use Rattle.pack_calls.proofs.row_counts.section_rows.Statement.{statement}
 use Rattle.pack_calls.proofs.row_counts.section_rows.Tie as tie
 
-image-refused-requires : tie.Need-image-refused-requires
-image-refused-requires c κs = search needs
+key-of-requires : tie.Need-key-of-requires
+key-of-requires c κs = search needs
+
+rows-keyed-requires : tie.Need-rows-keyed-requires
+rows-keyed-requires c κs = search needs
 
 returns : tie.Need-returns
-returns c = reading-nine _ _ _ _ _ (sym (c .before .image-refused .ensures) ∙ c .if1 .taken)
-
-section-shape-requires : tie.Need-section-shape-requires
-section-shape-requires c κs = search needs
-
-cast-out : tie.Need-cast-out
-cast-out c = search needs
-
-returns-2 : tie.Need-returns-2
-returns-2 c = reading-done _ _ _ _ _ (sym (c .before .before .before .image-refused .ensures) ∙ c .before .before .if1 .left) refl refl (ap (λ (h : SectionShape). h .rows) (c .before .section-shape .ensures))
+returns c =
+    let a = c .before .before .before .before .args in
+    c .rows-keyed .ensures ∙ ap (λ k. ffSectionRows (a .section) (now (a .image)) k (now (a .out))) (c .before .before .key-of .ensures)
 
 pub section-rows-spec : {M : Type 1} → statement M
-section-rows-spec =
-    tie.close (tie.spec image-refused-requires returns section-shape-requires cast-out returns-2)
+section-rows-spec = tie.close (tie.spec key-of-requires rows-keyed-requires returns)

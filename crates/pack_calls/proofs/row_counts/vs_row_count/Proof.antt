@@ -1,26 +1,22 @@
--- `pack_calls::row_counts::vs_row_count` meets its contract. Past 9 the call never refuses.
+-- `pack_calls::row_counts::vs_row_count` meets its contract: the key is what the seven numbers say.
 -- Assumes nothing.
-use mathlib.Core.Path.{refl, sym, _∙_}
-use Rattle.calls.proofs.Calls.{reading-nine, reading-done}
+use mathlib.Core.Path.{ap, _∙_}
+use denote.Ref.{now}
+use Rattle.pack_calls.specs.RowCounts.{ffVsRowCount}
 use borrow.Author.Needs.{needs}
 use Rattle.pack_calls.proofs.row_counts.vs_row_count.Statement.{statement}
 use Rattle.pack_calls.proofs.row_counts.vs_row_count.Tie as tie
 
-image-refused-requires : tie.Need-image-refused-requires
-image-refused-requires c κs = search needs
+key-of-requires : tie.Need-key-of-requires
+key-of-requires c κs = search needs
+
+count-keyed-requires : tie.Need-count-keyed-requires
+count-keyed-requires c κs = search needs
 
 returns : tie.Need-returns
-returns c = reading-nine _ _ _ _ _ (sym (c .before .image-refused .ensures) ∙ c .if1 .taken)
-
-ff-vs-row-count-requires : tie.Need-ff-vs-row-count-requires
-ff-vs-row-count-requires c κs = search needs
-
-cast-out : tie.Need-cast-out
-cast-out c = search needs
-
-returns-2 : tie.Need-returns-2
-returns-2 c = reading-done _ _ _ _ _ (sym (c .before .before .image-refused .ensures) ∙ c .before .if1 .left) refl refl (c .ff-vs-row-count .ensures)
+returns c =
+    let a = c .before .before .before .before .args in
+    c .count-keyed .ensures ∙ ap (λ k. ffVsRowCount (now (a .image)) k (now (a .out))) (c .before .before .key-of .ensures)
 
 pub vs-row-count-spec : {M : Type 1} → statement M
-vs-row-count-spec =
-    tie.close (tie.spec image-refused-requires returns ff-vs-row-count-requires cast-out returns-2)
+vs-row-count-spec = tie.close (tie.spec key-of-requires count-keyed-requires returns)
