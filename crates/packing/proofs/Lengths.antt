@@ -1,18 +1,22 @@
 -- A section's packed rows are as many as the table says, whenever its mask is accepted. Assumes nothing.
 use Prim.Native.Nat.{ℕ, _-_, _*_, _^_, _≤_, _<_}
-use native.Mathlib.Nat.{mul-comm}
+use native.Mathlib.Nat.{mul-comm, min-le-left}
 use native.Mathlib.Omega.{arith}
 use mathlib.Core.Path.{_≡_, refl, ap, _∙_}
 use mathlib.Core.Bool.{Bool, true, false, cond, _||_}
-use mathlib.Core.List.{[]}
+use mathlib.Core.List.{List, []}
 use lib.Count.{leadingZeros, leading-unique, leading-of-zero}
 use lib.Dec.{eqb}
-use lib.ListN.{length, take}
+use lib.ListN.{length, take, length-take}
 use lib.Pow.{pow-pos}
 use lib.Seq.{length-take-le}
 use borrow.Author.Tests.{eqb-true}
 use Rattle.d3d9_types.specs.declared.material.D3DMATERIAL9.{D3DMATERIAL9}
+use Rattle.d3d9_types.specs.declared.light.D3DLIGHT9.{D3DLIGHT9}
 use Rattle.light_table.specs.Active.{lowBits, masksOf}
+use Rattle.ff_state.specs.Active.{activeLights}
+use Rattle.ff_state.specs.Valid.{Valid}
+use Rattle.ff_state.specs.declared.state.FfState.{FfState}
 use Rattle.ff_state.specs.declared.sections.Section.{Section}
 use Rattle.ff_state.specs.declared.sections.Section.the-variants.{Wv, Proj, Material, Lights, Palette, Tt}
 use Rattle.rows.specs.Rows.{floats}
@@ -25,7 +29,8 @@ use Rattle.sections.specs.Key.{noTextures}
 use Rattle.sections.specs.Shape.{sectionShape, sectionRows}
 use Rattle.sections.specs.declared.key.FfVsKey.{FfVsKey}
 use Rattle.sections.proofs.Bounds.{matrices-most}
-use Rattle.packing.specs.Inputs.{Inputs, packedRows, maskAccepted}
+use Rattle.packing.specs.Inputs.{Inputs, packedRows, maskAccepted, inputsOf}
+use Rattle.packing.specs.Pack.{stateRows}
 
 -- the n lowest bits take n places
 pub places-low : (n : ℕ) → n ≤ 8 → places (lowBits n) ≡ n
@@ -44,6 +49,9 @@ unfolding materialRows
 material-rows true true m = refl
 material-rows true false m = refl
 material-rows false sp m = refl
+
+pub few : (ls : List D3DLIGHT9) → length (take 8 ls) ≤ 8
+few ls = simp length-take (min-le-left 8 (length ls))
 
 -- what the key and the inputs have to be: u8 numbers, 256 world matrices, eight lights at most
 pub record Sized (k : FfVsKey) (i : Inputs) : Type 0 where
@@ -79,3 +87,8 @@ module _ (k : FfVsKey) (i : Inputs) (z : Sized k i) where
   -- "4 times the section's rows"
   pub floats-length : (σ : Section) → maskAccepted σ k i ≡ true → length (floats (packedRows σ k i)) ≡ 4 * sectionRows σ k noTextures
   floats-length σ m = length-floats (packedRows σ k i) ∙ ap (λ (n : ℕ). 4 * n) (rows-length σ m)
+
+-- of a valid state
+pub state-length : {s : FfState} → Valid s → (k : FfVsKey) → k .«vertex_blend_count» < 256 → (σ : Section) → maskAccepted σ k (inputsOf s) ≡ true
+    → length (stateRows σ s k) ≡ 4 * sectionRows σ k noTextures
+state-length {s} v k byte σ = floats-length k (inputsOf s) (record { count = byte; palette = v .palette-length; lights = few (activeLights s) }) σ

@@ -2,6 +2,7 @@
 use Prim.Native.Nat.{ℕ, zero, suc, _+_, _<_}
 use native.Mathlib.Nat.{add-zero, not-suc-le-zero, le-of-suc-le-suc}
 use native.Mathlib.Omega.{arith}
+use mathlib.Core.Bool.{true}
 use mathlib.Core.Path.{_≡_, refl, sym, ap, _∙_}
 use mathlib.Core.List.{List}
 use lib.Ieee.{Float}
@@ -9,6 +10,7 @@ use lib.ListN.{length, take, getD}
 use lib.Seq.{ext-getD}
 use Rattle.d3d9_types.specs.declared.matrix.D3DMATRIX.{D3DMATRIX}
 use Rattle.d3d9_model.specs.State.{AbstractState}
+use Rattle.d3d9_model.specs.Lights.{abstractActive}
 use Rattle.ff_state.specs.State.{noMatrix}
 use Rattle.ff_state.specs.Valid.{Valid}
 use Rattle.ff_state.specs.declared.sections.Section.{Section}
@@ -17,7 +19,10 @@ use Rattle.agreement.specs.Agrees.{Agrees}
 use Rattle.agreement.proofs.Active.{active-agrees}
 use Rattle.rows.specs.Rows.{floats}
 use Rattle.sections.specs.declared.key.FfVsKey.{FfVsKey}
-use Rattle.packing.specs.Inputs.{Inputs, packedRows, inputsOf}
+use Rattle.sections.specs.Key.{noTextures}
+use Rattle.sections.specs.Shape.{sectionRows}
+use Rattle.packing.proofs.Lengths.{few, rows-length}
+use Rattle.packing.specs.Inputs.{Inputs, packedRows, maskAccepted, inputsOf}
 use Rattle.packing.specs.Pack.{stateRows, packInputs, packSection}
 use Rattle.packing_laws.specs.Abstract.{matricesFrom, abstractInputs, abstractRows, abstractPack}
 
@@ -56,3 +61,10 @@ module _ {s : FfState} {a : AbstractState} (v : Valid s) (g : Agrees s a) where
   pub packing-agrees : (σ : Section) (k : FfVsKey) (dst : List Float) → packSection σ s k dst ≡ abstractPack σ a k dst
   unfolding packSection abstractPack
   packing-agrees σ k dst = ap (λ (i : Inputs). packInputs σ k i dst) inputs-agree
+
+-- the abstract state has 256 world matrices, and a compacted list has eight lights at most
+pub abstract-length : (a : AbstractState) (k : FfVsKey) → k .«vertex_blend_count» < 256 → (σ : Section) → maskAccepted σ k (abstractInputs a) ≡ true
+    → length (abstractRows σ a k) ≡ sectionRows σ k noTextures
+unfolding abstractRows abstractInputs
+abstract-length a k byte σ =
+    rows-length k (abstractInputs a) (record { count = byte; palette = length-matrices (a .matrix) 256 256; lights = few (abstractActive a) }) σ
