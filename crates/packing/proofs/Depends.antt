@@ -92,7 +92,7 @@ module _ {k l : FfVsKey} (e : SameShape k l) where
     shape-accepted Palette = refl
     shape-accepted Tt = refl
 
-    -- keys that are equal in the shape fields pack alike
+    -- keys that are equal in the shape fields pack alike, whatever the inputs are
     pub shape-packing : (σ : Section) (dst : List Float) → packInputs σ k i dst ≡ packInputs σ l i dst
     unfolding packInputs
     shape-packing σ dst =

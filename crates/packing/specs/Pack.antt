@@ -15,7 +15,7 @@ use Rattle.packing.specs.Inputs.{Inputs, packedRows, maskAccepted, input
 use Rattle.packing.specs.declared.answer.PackAnswer.{PackAnswer}
 use Rattle.packing.specs.declared.answer.PackAnswer.the-variants.{Packed, WrongLength, WrongMask}
 
--- the answer, and the destination afterwards
+-- The answer, and the destination afterwards. A float has one NaN here: which of its bit patterns stands in the destination is left free.
 pub record Outcome : Type 0 where
   pub answer : PackAnswer
   pub floats : List Float

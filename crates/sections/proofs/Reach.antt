@@ -91,6 +91,7 @@ module _ (k : FfVsKey) (t : ℕ) where
   second-too = omega (arith, colours-reach (k .«lighting_enabled») (k .«specular_enable»))
 
   behind : max (reaches Material) (max (reaches Tt) (reaches Palette)) ≡ greatestReach (Wv ∷ Proj ∷ Material ∷ Tt ∷ Palette ∷ []) k t
+  unfolding greatestReach
   behind =
       let rest : ℕ = max (reaches Tt) (max (reaches Palette) 0) in
       let last : max (reaches Tt) (reaches Palette) ≡ rest = omega arith in
@@ -100,11 +101,12 @@ module _ (k : FfVsKey) (t : ℕ) where
 
   all-read : (l : Bool) → max (max (max (cond l (reaches Lights) 0) (reaches Material)) (reaches Tt)) (reaches Palette)
       ≡ greatestReach (cond l (Lights ∷ Wv ∷ Proj ∷ Material ∷ Tt ∷ Palette ∷ []) (Wv ∷ Proj ∷ Material ∷ Tt ∷ Palette ∷ [])) k t
+  unfolding greatestReach
   all-read true = regroup (reaches Lights) (reaches Material) (reaches Tt) (reaches Palette) ∙ ap (max (reaches Lights)) behind
   all-read false = regroup 0 (reaches Material) (reaches Tt) (reaches Palette) ∙ sym (absorbed 0 (reaches Material) _ zero-le) ∙ behind
 
   pub row-count-is : ffVsRowCount k t ≡ cond (k .«has_rhw») 1 (greatestReach (readSections k) k t)
-  unfolding ffVsRowCount
+  unfolding ffVsRowCount readSections
   row-count-is =
       ap (cond (k .«has_rhw») 1)
       (ap₂ max (ap₂ max lighting texture) palette ∙ all-read (k .«lighting_enabled»))

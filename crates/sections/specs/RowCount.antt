@@ -28,12 +28,12 @@ ffVsRowCount k t = cond (k .«has_rhw») 1 (max (max (lightingReach k) (textureR
 -- ---- the same by the table
 
 -- the sections that a draw without HAS_RHW reads: the lights' only when lit
-abbrev pub readSections : FfVsKey → List Section
+unfoldable pub readSections : FfVsKey → List Section
 readSections k =
     let others = Wv ∷ Proj ∷ Material ∷ Tt ∷ Palette ∷ [] in
     cond (k .«lighting_enabled») (Lights ∷ others) others
 
 -- the greatest reach
-abbrev pub greatestReach : List Section → FfVsKey → ℕ → ℕ
+unfoldable pub greatestReach : List Section → FfVsKey → ℕ → ℕ
 greatestReach [] k t = 0
 greatestReach (σ ∷ σs) k t = max (reach (sectionShape σ k t)) (greatestReach σs k t)

@@ -1,4 +1,5 @@
 // What the sections depend on of a vertex shader's key (dxso/ff.rs).
+#[repr(C)]
 pub struct FfVsKey {
     pub has_rhw: bool,
     pub lighting_enabled: bool,
