@@ -1,4 +1,4 @@
--- The cone of a spot light. Document 01, 'Rows of a section': "scale is 1 / larger of (ct − cp) and 1e-6; offset is (−cp) × scale. Other kinds have 0, 0." (ff_state.rs 1887–1908)
+-- The cone of a spot light. Document 01, 'Rows of a section': "scale is 1 / larger of (ct − cp) and 1e-6; offset is (−cp) × scale. Other kinds have 0, 0." (ff_state.rs 1874–1881)
 use Prim.Native.Nat.{ℕ}
 use mathlib.Core.Bool.{false, cond}
 use lib.Dec.{eqb}

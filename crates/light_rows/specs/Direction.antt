@@ -1,4 +1,4 @@
--- Unit directions. Document 01, 'Rows of a section'; ff_state.rs 1869–1886.
+-- Unit directions. Document 01, 'Rows of a section'; ff_state.rs 1847–1862.
 use mathlib.Core.Bool.{cond}
 use mathlib.Core.List.{[], _∷_}
 use lib.Ieee.{Float, binary32, div, lt}

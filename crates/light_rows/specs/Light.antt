@@ -1,4 +1,4 @@
--- Rows of lights. Document 01, 'Rows of a section'; ff_state.rs 1844–1932.
+-- Rows of lights. Document 01, 'Rows of a section'; ff_state.rs 1825–1899.
 use Prim.Native.Nat.{ℕ}
 use mathlib.Core.Bool.{cond}
 use mathlib.Core.List.{List, [], _∷_}

@@ -1,4 +1,4 @@
--- Rows of a material. Document 01, 'Rows of a section'; ff_state.rs 1784–1816.
+-- Rows of a material. Document 01, 'Rows of a section'; ff_state.rs 1766–1789.
 use mathlib.Core.Bool.{Bool, cond}
 use mathlib.Core.List.{List, [], _∷_}
 use Rattle.d3d9_types.specs.Numbers.{zero}

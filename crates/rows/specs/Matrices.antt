@@ -1,4 +1,4 @@
--- Rows of matrices. Document 01, 'Rows of a section'; ff_state.rs 1709–1728, 1934–1958.
+-- Rows of matrices. Document 01, 'Rows of a section'; ff_state.rs 1699–1713, 1937–1953.
 use mathlib.Core.List.{List, [], _∷_}
 use Rattle.d3d9_types.specs.declared.matrix.Row.{Row}
 use Rattle.d3d9_types.specs.declared.matrix.D3DMATRIX.{D3DMATRIX}

@@ -1,4 +1,4 @@
--- Rows of each section under a key. Document 01, 'Rows of a section'; ff_state.rs 451–468, 1960–2000.
+-- Rows of each section under a key. Document 01, 'Rows of a section'; ff_state.rs 451–468, 1957–1998.
 use Prim.Native.Nat.{ℕ, _-_, _*_}
 use mathlib.Core.Bool.{cond}
 use lib.Count.{leadingZeros}

@@ -1,4 +1,4 @@
--- The number of rows that a draw reads (ff_state.rs 1640–1697), each part one past the last row that the Rust gives it. A fog row, 8, is never the last: the material's begin at 10.
+-- The number of rows that a draw reads (ff_state.rs 1631–1676), each part one past the last row that the Rust gives it. A fog row, 8, is never the last: the material's begin at 10.
 use Prim.Native.Nat.{ℕ, _+_, max}
 use mathlib.Core.Bool.{cond}
 use mathlib.Core.List.{List, [], _∷_}

@@ -1,4 +1,4 @@
--- The table of sections: bit, first row, and rows under a key and a texture mask. Document 01, 'A refresh, from the top'; TT's first row is ff_state.rs 1911.
+-- The table of sections: bit, first row, and rows under a key and a texture mask. Document 01, 'A refresh, from the top'; TT's first row is ff_state.rs 1902.
 use Prim.Native.Nat.{ℕ, _+_}
 use mathlib.Core.Bool.{cond}
 use lib.Dec.{eqb}
