@@ -1,0 +1,79 @@
+// States and keys to pack.
+use d3d9_types::D3DLIGHT_SPOT;
+use d3d9_types::D3DLIGHT9;
+use d3d9_types::D3DMATRIX;
+use d3d9_types::D3DVECTOR;
+use d3d9_types::IDENTITY;
+use d3d9_types::Row;
+use d3d9_types::default_light;
+use ff_lights::set_light_at;
+use ff_lights::set_light_enabled_at;
+use ff_state::FfState;
+use packing::PackAnswer;
+use sections::FfVsKey;
+
+pub fn translation(x: f32) -> D3DMATRIX {
+    let mut m = IDENTITY;
+    let last = Row {
+        x,
+        y: 2.0,
+        z: 3.0,
+        w: 1.0,
+    };
+    m.r3 = last;
+    m
+}
+
+// Lit and specular; eight lights; indexed, so that the palette is of 40.
+pub fn full_key() -> FfVsKey {
+    FfVsKey {
+        has_rhw: false,
+        lighting_enabled: true,
+        specular_enable: true,
+        vertex_blend_indexed: true,
+        light_active_mask: 0xFF,
+        fog_mode: 0,
+        vertex_blend_count: 1,
+    }
+}
+
+fn spot() -> D3DLIGHT9 {
+    let mut light = default_light();
+    let direction = D3DVECTOR {
+        x: 1.0,
+        y: 2.0,
+        z: 3.0,
+    };
+    light.type_ = D3DLIGHT_SPOT;
+    light.direction = direction;
+    light.theta = 0.5;
+    light.phi = 1.0;
+    light.falloff = 1.0;
+    light
+}
+
+fn with_spot(s: FfState, index: u32) -> FfState {
+    let set = set_light_at(s, index, spot());
+    let enabled = set_light_enabled_at(set.state, index, true);
+    enabled.state
+}
+
+// The fresh state with eight spot lights on.
+pub fn eight_spots() -> FfState {
+    let a = with_spot(FfState::new(), 0);
+    let b = with_spot(a, 1);
+    let c = with_spot(b, 2);
+    let d = with_spot(c, 3);
+    let e = with_spot(d, 4);
+    let f = with_spot(e, 5);
+    let g = with_spot(f, 6);
+    with_spot(g, 7)
+}
+
+pub fn one_if_packed(answer: PackAnswer) -> u32 {
+    match answer {
+        PackAnswer::Packed => 1,
+        PackAnswer::WrongLength => 0,
+        PackAnswer::WrongMask => 0,
+    }
+}
