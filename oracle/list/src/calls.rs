@@ -1,4 +1,4 @@
-//! A sample of calls on one running image: oracle/README.md has the form of its lines.
+//! A sample of calls on one running image: crates/replay_lines/src/lib.rt has the form of its lines.
 
 use std::fmt::Write;
 
@@ -10,135 +10,122 @@ use cases::world::World;
 
 use crate::{SEED, Sample};
 
-/// The buffer that the image is the start of, and so the longest image of a line.
-const BUFFER: usize = BYTES + 4;
-/// The buffer of an item, and so the longest slice of a line.
+/// The bytes of the running item, and so the longest slice of a line.
 const ITEM: usize = 128;
-/// What the words of a lent item or number hold before a call.
-const KEPT: u32 = 0xA5A5_A5A5;
 /// Random lists of the sample.
 const LISTS: u64 = 10;
 
 const fn letter(name: Name) -> char {
     match name {
         Name::ImageFresh => 'F',
-        Name::ImageCheck => 'K',
-        Name::SetTransform => 'T',
+        Name::ImageCheck => 'X',
+        Name::SetTransform => 'S',
         Name::MultiplyTransform => 'M',
-        Name::Transform => 'G',
+        Name::Transform => 'T',
         Name::WorldPaletteUsed => 'P',
-        Name::WorldViewProjection => 'V',
+        Name::WorldViewProjection => 'W',
         Name::SetMaterial => 'A',
         Name::GetMaterial => 'B',
         Name::SetLightAt => 'L',
         Name::SetLightEnabledAt => 'E',
-        Name::GetLightAt => 'R',
-        Name::IsLightEnabledAt => 'Q',
+        Name::GetLightAt => 'G',
+        Name::IsLightEnabledAt => 'N',
         Name::IsLightDefinedAt => 'D',
-        Name::VsSourceLightInputs => 'I',
+        Name::VsSourceLightInputs => 'V',
         Name::CompactedLightMasks => 'C',
-        Name::MarkFfVsDirty => 'X',
-        Name::TakeFfVsDirty => 'Z',
+        Name::MarkFfVsDirty => 'K',
+        Name::TakeFfVsDirty => 'Q',
     }
 }
 
-/// The remainder by 2^32 - 5, a prime, of the bytes as digits to base 31: no single byte can be
-/// changed without it.
-fn checksum(bytes: &[u8]) -> u32 {
-    let sum = bytes.iter().fold(0u64, |sum, &byte| {
-        (31 * sum + u64::from(byte)) % 4_294_967_291
-    });
-    sum as u32
-}
-
-/// The words of bytes, the last filled up with zeros.
-fn words(bytes: &[u8]) -> Vec<u32> {
-    let fours = bytes.chunks(4).map(|chunk| {
-        let mut four = [0; 4];
-        four[..chunk.len()].copy_from_slice(chunk);
-        u32::from_le_bytes(four)
-    });
-    fours.collect()
+fn digest(bytes: &[u8]) -> u32 {
+    bytes.iter().fold(0u32, |sum, &byte| {
+        sum.wrapping_add(u32::from(byte) + 1)
+            .wrapping_mul(0x0100_0193)
+    })
 }
 
 struct Calls<'a> {
     sample: &'a mut Sample,
     world: World,
-    buffer: Vec<u8>,
-    length: usize,
+    image: Vec<u8>,
+    item: [u8; ITEM],
 }
 
 impl Calls<'_> {
-    fn line(&mut self, letter: char, arguments: &[u32], answer: &[u32]) {
-        self.sample.add(letter, arguments, Some(answer));
+    /// A line that is accepted.
+    fn line(&mut self, letter: char, arguments: &[u32], number: u32) {
+        let answer = [number, digest(&self.item), digest(&self.image)];
+        self.sample.add(letter, arguments, Ok(&answer));
     }
 
-    /// The words that follow a call's letter.
-    fn arguments(call: &Call) -> Vec<u32> {
-        let form = call.name.form();
-        let mut arguments = Vec::new();
-        if call.takes_number() {
-            arguments.push(call.number);
-        }
-        if call.name == Name::SetLightEnabledAt {
-            arguments.push(call.enabled);
-        }
-        if let Some(right) = form.takes {
-            let mut item = call.given.clone();
-            item.resize(right, 0);
-            arguments.push(call.given.len() as u32);
-            arguments.extend(words(&item));
-        }
-        if matches!(form.gives, Gives::Item(_)) {
-            arguments.push(call.lent as u32);
-        }
-        arguments
+    fn put_byte(&mut self, at: usize, byte: u8) {
+        self.image[at] = byte;
+        self.line('O', &[at as u32, u32::from(byte)], 0);
     }
 
-    /// A call whose image is the buffer's start, damaged or not; its line, and whether it ran.
-    fn call(&mut self, call: &Call) -> bool {
-        let judged = self.world.judge(call, Some(&self.buffer[..self.length]));
-        if judged.ran {
-            self.buffer[..BYTES].copy_from_slice(self.world.image());
-        }
-        let mut answer = vec![judged.status(), checksum(&self.buffer)];
-        match (judged.answer, call.name.form().gives) {
-            (Ok(Output::Bytes(bytes)), _) => answer.extend(words(&bytes)),
-            (Ok(Output::Number(number)), _) => answer.push(number),
-            (_, Gives::Item(bytes)) => answer.extend(vec![KEPT; bytes / 4]),
-            (_, Gives::Number) => answer.push(KEPT),
-            (_, Gives::Nothing) => {}
-        }
-        self.line(letter(call.name), &Self::arguments(call), &answer);
-        judged.ran
-    }
-
-    fn patch(&mut self, at: usize, word: u32) {
-        self.buffer[at..at + 4].copy_from_slice(&word.to_le_bytes());
-        let answer = [checksum(&self.buffer)];
-        self.line('p', &[at as u32, word], &answer);
-    }
-
-    fn set_length(&mut self, length: usize) {
-        self.length = length;
-        let answer = [checksum(&self.buffer)];
-        self.line('n', &[length as u32], &answer);
-    }
-
-    /// Puts `target` in place of the buffer's bytes.
-    fn put(&mut self, target: &[u8]) {
-        let mut at = 0;
-        while at < BYTES {
-            if self.buffer[at] == target[at] {
-                at += 1;
-            } else {
-                self.patch(at, image::number32(target, at));
-                at += 4;
+    /// Puts `target` over the image.
+    fn put_image(&mut self, target: &[u8]) {
+        for (at, &byte) in target.iter().enumerate() {
+            if self.image[at] != byte {
+                self.put_byte(at, byte);
             }
         }
     }
 
-    /// A call of a random list, where the lines' buffers hold what it is given.
+    /// Puts bytes over the item's start, where they are not there yet.
+    fn put_item(&mut self, bytes: &[u8]) {
+        if self.item.starts_with(bytes) {
+            return;
+        }
+        let length = bytes.len().min(LIGHT);
+        self.item[..length].copy_from_slice(&bytes[..length]);
+        let fours = self.item[..LIGHT].as_chunks().0.iter();
+        let words: Vec<u32> = fours.map(|&four| u32::from_le_bytes(four)).collect();
+        self.line('I', &words, 0);
+    }
+
+    /// A call on the image, or on its first `length` bytes; whether it ran.
+    fn call_on(&mut self, call: &Call, length: usize) -> bool {
+        if call.name.form().takes.is_some() {
+            self.put_item(&call.given);
+        }
+        let call = Call {
+            given: self.item[..call.given.len()].to_vec(),
+            ..call.clone()
+        };
+        let judged = self.world.judge(&call, Some(&self.image[..length]));
+        if judged.ran {
+            self.image.copy_from_slice(self.world.image());
+        }
+        let second = match (call.name, call.name.form().gives) {
+            (Name::ImageFresh | Name::ImageCheck, _) => length,
+            (Name::SetLightEnabledAt, _) => call.enabled as usize,
+            (_, Gives::Item(_)) => call.lent,
+            _ => call.given.len(),
+        };
+        let (letter, arguments) = (letter(call.name), [call.number, second as u32]);
+        let number = match judged.answer {
+            Ok(Output::Number(number)) => number,
+            Ok(Output::Bytes(bytes)) => {
+                self.item[..bytes.len()].copy_from_slice(&bytes);
+                0
+            }
+            Ok(Output::Nothing) => 0,
+            Err(refusal) => {
+                self.sample.add(letter, &arguments, Err(refusal));
+                return false;
+            }
+        };
+        self.line(letter, &arguments, number);
+        judged.ran
+    }
+
+    fn call(&mut self, call: &Call) -> bool {
+        self.call_on(call, BYTES)
+    }
+
+    /// A call of a random list, where a line has the room for what it is given.
     fn random(&mut self, call: &Call) {
         if call.given.len() > ITEM || call.lent > ITEM {
             return;
@@ -147,25 +134,21 @@ impl Calls<'_> {
             self.call(call);
             return;
         };
+        if let Some(length) = damage.length {
+            if matches!(call.name, Name::ImageFresh | Name::ImageCheck) && length <= BYTES {
+                self.call_on(call, length);
+            }
+            return;
+        }
         if damage.patches.iter().any(|(_, bytes)| bytes.len() > 4) {
             return;
         }
-        let before = self.buffer.clone();
-        let mut target = before[..BYTES].to_vec();
+        let before = self.image.clone();
+        let mut target = before.clone();
         damage.apply(&mut target);
-        let length = target.len().min(BUFFER);
-        target.resize(BUFFER, 0);
-        if damage.length.is_none() {
-            self.put(&target);
-        } else {
-            self.set_length(length);
-        }
-        let ran = self.call(call);
-        if self.length != BYTES {
-            self.set_length(BYTES);
-        }
-        if !ran {
-            self.put(&before);
+        self.put_image(&target);
+        if !self.call(call) && !image::reasons(&self.image).is_empty() {
+            self.put_image(&before);
         }
     }
 }
@@ -224,24 +207,38 @@ fn cases() -> Vec<Call> {
     calls
 }
 
+/// Each call on an image with one byte damaged, which is then put back.
+fn damaged(calls: &mut Calls) {
+    for (&name, at) in NAMES
+        .iter()
+        .zip([image::DIRTY, image::ZERO, BYTES - 1].iter().cycle())
+    {
+        let kept = calls.image[*at];
+        calls.put_byte(*at, kept | 0x40);
+        calls.call(&Call::plain(name));
+        if name != Name::ImageFresh {
+            calls.put_byte(*at, kept);
+        }
+    }
+}
+
 pub fn calls(sample: &mut Sample) {
     let mut calls = Calls {
         sample,
         world: World::fresh(),
-        buffer: vec![0; BUFFER],
-        length: BYTES,
+        image: vec![0; BYTES],
+        item: [0; ITEM],
     };
     // Zeros are no image, and the last of these calls makes them one.
     for &name in NAMES.iter().rev() {
         calls.call(&Call::plain(name));
     }
-    for length in [BYTES - 1, BYTES + 1] {
-        calls.set_length(length);
-        for &name in NAMES {
-            calls.call(&Call::plain(name));
+    damaged(&mut calls);
+    for name in [Name::ImageFresh, Name::ImageCheck] {
+        for length in [0, 1, BYTES - 4, BYTES - 1] {
+            calls.call_on(&Call::plain(name), length);
         }
     }
-    calls.set_length(BYTES);
     for call in cases() {
         calls.call(&call);
     }
@@ -253,21 +250,21 @@ pub fn calls(sample: &mut Sample) {
     }
 }
 
-/// How often each call of the sample met each refusal, as `letter number` pairs that never occur.
+/// The calls that the sample does not answer with 0 or with one of their refusals.
 pub fn unmet(sample: &Sample) -> String {
     let mut missing = String::new();
+    let met = |name: Name, wanted: &dyn Fn(&str) -> bool| {
+        let lines = sample.questions.lines().zip(sample.answers.lines());
+        lines
+            .filter(|(question, _)| question.starts_with(letter(name)))
+            .any(|(_, answer)| wanted(answer))
+    };
     for &name in NAMES {
+        if !met(name, &|answer| !answer.starts_with("refused")) {
+            let _ = write!(missing, " {} 0", name.form().c_name);
+        }
         for &refusal in name.form().refusals {
-            let met =
-                sample
-                    .questions
-                    .lines()
-                    .zip(sample.answers.lines())
-                    .any(|(question, answer)| {
-                        question.starts_with(letter(name))
-                            && answer.starts_with(&format!("{refusal:08x}"))
-                    });
-            if !met {
+            if !met(name, &|answer| answer == format!("refused {refusal}")) {
                 let _ = write!(missing, " {} {refusal}", name.form().c_name);
             }
         }

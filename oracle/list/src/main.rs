@@ -1,6 +1,6 @@
 //! Writes a sample of the Rust's answers as two files that a program can replay: one operation a
-//! line in `stdin`, its answer at the same line of `stdout`. Our library takes no part. There are two
-//! samples: of the arithmetic, and of calls on a state image.
+//! line in `stdin`, its answer at the same line of `stdout`: of the arithmetic, then of calls on a state
+//! image. Our library takes no part.
 
 mod calls;
 
@@ -18,6 +18,8 @@ const SEED: u64 = 9;
 const PRODUCTS: u64 = 600;
 const TRANSPOSES: u64 = 208;
 const INVERSES: u64 = 720;
+/// Document 01's refusal of a matrix that has no inverse.
+const NO_INVERSE: u32 = 6;
 
 #[derive(Default)]
 struct Sample {
@@ -26,41 +28,44 @@ struct Sample {
 }
 
 impl Sample {
-    fn add(&mut self, operation: char, arguments: &[u32], answer: Option<&[u32]>) {
+    fn add(&mut self, operation: char, arguments: &[u32], answer: Result<&[u32], u32>) {
         self.questions.push(operation);
         for word in arguments {
             let _ = write!(self.questions, " {word:08x}");
         }
         self.questions.push('\n');
         match answer {
-            Some(words) => {
+            Ok(words) => {
                 let words: Vec<String> = words.iter().map(|word| format!("{word:08x}")).collect();
                 self.answers += &words.join(" ");
             }
-            None => self.answers += "refused 6",
+            Err(refusal) => {
+                let _ = write!(self.answers, "refused {refusal}");
+            }
         }
         self.answers.push('\n');
     }
 
     fn root(&mut self, bits: u32) {
-        self.add('s', &[bits], Some(&[answers::sqrt(bits)]));
+        self.add('s', &[bits], Ok(&[answers::sqrt(bits)]));
     }
 
     fn cosine(&mut self, bits: u32) {
-        self.add('c', &[bits], Some(&[answers::cos(bits)]));
+        self.add('c', &[bits], Ok(&[answers::cos(bits)]));
     }
 
     fn product(&mut self, a: &Words, b: &Words) {
-        self.add('m', &[*a, *b].concat(), Some(&answers::mat_mul(a, b)));
+        self.add('m', &[*a, *b].concat(), Ok(&answers::mat_mul(a, b)));
     }
 
     fn transpose(&mut self, m: &Words) {
-        self.add('t', m, Some(&answers::transpose(m)));
+        self.add('t', m, Ok(&answers::transpose(m)));
     }
 
     fn inverse(&mut self, m: &Words) {
         let answer = answers::inverse(m);
-        self.add('i', m, answer.as_ref().map(|words| words.as_slice()));
+        let answer = answer.as_ref().map(|words| words.as_slice());
+        self.add('i', m, answer.ok_or(NO_INVERSE));
     }
 }
 
@@ -166,25 +171,20 @@ fn inverses(sample: &mut Sample) {
     }
 }
 
-fn arithmetic() -> Sample {
+/// The arithmetic, then the calls on an image, each of which must meet each of its refusals.
+fn sample() -> Result<Sample, String> {
     let mut sample = Sample::default();
     roots(&mut sample);
     cosines(&mut sample);
     products(&mut sample);
     transposes(&mut sample);
     inverses(&mut sample);
-    sample
-}
-
-/// The calls on an image; each must meet each of its refusals.
-fn on_images() -> Result<Sample, String> {
-    let mut sample = Sample::default();
     calls::calls(&mut sample);
     let missing = calls::unmet(&sample);
     if missing.is_empty() {
         Ok(sample)
     } else {
-        Err(format!("the sample lacks refusals:{missing}"))
+        Err(format!("the sample lacks answers:{missing}"))
     }
 }
 
@@ -197,14 +197,10 @@ fn write(sample: &Sample, folder: &Path) -> Result<(), String> {
 
 fn run() -> Result<usize, String> {
     let arguments: Vec<String> = std::env::args().skip(1).collect();
-    let [command, folder] = &arguments[..] else {
-        return Err("list and call-list need a folder".to_string());
+    let [_, folder] = &arguments[..] else {
+        return Err("list needs a folder".to_string());
     };
-    let sample = match command.as_str() {
-        "list" => arithmetic(),
-        "call-list" => on_images()?,
-        other => return Err(format!("no list {other}")),
-    };
+    let sample = sample()?;
     write(&sample, Path::new(folder))?;
     Ok(sample.questions.lines().count())
 }
