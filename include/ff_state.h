@@ -33,6 +33,7 @@ enum {
     FF_UNDEFINED_LIGHT = 2, /* no light was set or enabled at this index */
     FF_LIGHTS_FULL = 3,     /* a new index of 8 or more, and FF_OVERFLOW_LIGHTS such are stored */
     FF_WRONG_LENGTH = 4,    /* a slice is not as long as its item */
+    FF_WRONG_MASK = 5,      /* the key's light mask is not 0 and not that of the lights that light */
     FF_SINGULAR = 6,        /* the determinant equals 0 or is not finite */
     FF_UNKNOWN_BITS = 7,    /* dirty bits above FF_DIRTY_ALL */
     FF_NO_IMAGE = 9         /* the bytes are no state image */
@@ -43,8 +44,9 @@ enum {
     FF_IMAGE_BYTES = 24204,
     FF_MATRIX_BYTES = 64,   /* 16 floats, row by row */
     FF_MATERIAL_BYTES = 68, /* 17 floats: diffuse, ambient, specular, emissive (rgba each), power */
-    FF_LIGHT_BYTES = 104    /* the type, then 25 floats: diffuse, specular, ambient (rgba each), position, direction
+    FF_LIGHT_BYTES = 104,   /* the type, then 25 floats: diffuse, specular, ambient (rgba each), position, direction
                                (xyz each), range, falloff, attenuation 0 to 2, theta, phi */
+    FF_ROW_BYTES = 16       /* 4 floats: a row of the shader's constants */
 };
 
 /* Transform states, by Direct3D's names without D3D. */
@@ -72,6 +74,16 @@ enum {
     FF_DIRTY_ALL = 63
 };
 
+/* The first row of each section in the shader's constants, and the most rows that these have. TT has none. */
+enum {
+    FF_ROW_WV = 0,
+    FF_ROW_PROJ = 4,
+    FF_ROW_MATERIAL = 10,
+    FF_ROW_LIGHTS = 15,
+    FF_ROW_PALETTE = 95,
+    FF_ROWS = 1115
+};
+
 /* What an answer means, in words. */
 static inline const char *ff_refusal_words(uint32_t answer) {
     switch (answer) {
@@ -85,6 +97,8 @@ static inline const char *ff_refusal_words(uint32_t answer) {
         return "no room for another light of index 8 or more";
     case FF_WRONG_LENGTH:
         return "a slice has the wrong length";
+    case FF_WRONG_MASK:
+        return "the key's light mask is not that of the lights that light";
     case FF_SINGULAR:
         return "the matrix has no inverse";
     case FF_UNKNOWN_BITS:
@@ -164,6 +178,55 @@ uint32_t ff_mark_ff_vs_dirty(uint8_t *image, size_t image_len, uint32_t bits);
 
 /* Answers with the bits and clears them. Refuses 9. */
 uint32_t ff_take_ff_vs_dirty(uint8_t *image, size_t image_len, uint32_t *out);
+
+/* Packing: the rows of the shader's constants, by section. These calls leave the image as it is. */
+
+/* A draw is told by its shader's key, which crosses as seven numbers. A flag, one of the first four, is set by any number
+ * but 0. FF_KEY stands for the seven parameters, FF_KEY_OF(key) for a struct's seven fields where a call is made. */
+#define FF_KEY                                                                                                       \
+    uint8_t has_rhw, uint8_t lighting_enabled, uint8_t specular_enable, uint8_t vertex_blend_indexed,                \
+        uint8_t light_active_mask, uint8_t fog_mode, uint8_t vertex_blend_count
+
+#define FF_KEY_OF(key)                                                                                               \
+    (key).has_rhw, (key).lighting_enabled, (key).specular_enable, (key).vertex_blend_indexed,                        \
+        (key).light_active_mask, (key).fog_mode, (key).vertex_blend_count
+
+struct ff_vs_key {
+    uint8_t has_rhw, lighting_enabled, specular_enable, vertex_blend_indexed;
+    uint8_t light_active_mask; /* 0, or the first byte of ff_compacted_light_masks */
+    uint8_t fog_mode, vertex_blend_count;
+};
+
+/* How many rows of constants a draw reads, from row 0 on: 1 for transformed vertices (has_rhw), else up to the last row of
+ * its sections. Refuses 9. */
+uint32_t ff_vs_row_count(const uint8_t *image, size_t image_len, FF_KEY, uint32_t *out);
+
+/* The rows of a section. WV and PROJ 4; MATERIAL 1, lit 4, lit with specular 5; LIGHTS 6 for each light up to the mask's
+ * highest bit, lit or not; PALETTE 4 for each matrix: 40 of them where indexed, else the count, none at count 0; TT none.
+ * has_rhw and fog_mode are not looked at. Refuses 9. */
+uint32_t ff_wv_section_rows(const uint8_t *image, size_t image_len, FF_KEY, uint32_t *out);
+uint32_t ff_proj_section_rows(const uint8_t *image, size_t image_len, FF_KEY, uint32_t *out);
+uint32_t ff_material_section_rows(const uint8_t *image, size_t image_len, FF_KEY, uint32_t *out);
+uint32_t ff_lights_section_rows(const uint8_t *image, size_t image_len, FF_KEY, uint32_t *out);
+uint32_t ff_palette_section_rows(const uint8_t *image, size_t image_len, FF_KEY, uint32_t *out);
+uint32_t ff_tt_section_rows(const uint8_t *image, size_t image_len, FF_KEY, uint32_t *out);
+
+/* Writes the rows of a section to dst, which is as long as they are: FF_ROW_BYTES for each row that the call above answers
+ * with, so that a section without rows wants an empty slice. The key is looked at as there. Refuses 9, 4.
+ *
+ * WV: the columns of world matrix 0 x view. PROJ: those of the projection. PALETTE: those of world matrix i x view, by
+ * ascending i. MATERIAL: diffuse; lit ambient, specular and emissive too; then power, 0, 0, 0. */
+uint32_t ff_fill_wv_section(const uint8_t *image, size_t image_len, FF_KEY, uint8_t *dst, size_t dst_len);
+uint32_t ff_fill_proj_section(const uint8_t *image, size_t image_len, FF_KEY, uint8_t *dst, size_t dst_len);
+uint32_t ff_fill_material_section(const uint8_t *image, size_t image_len, FF_KEY, uint8_t *dst, size_t dst_len);
+uint32_t ff_fill_palette_section(const uint8_t *image, size_t image_len, FF_KEY, uint8_t *dst, size_t dst_len);
+uint32_t ff_fill_tt_section(const uint8_t *image, size_t image_len, FF_KEY, uint8_t *dst, size_t dst_len);
+
+/* The same for the lights that light, six rows each, by ascending index: position as the view sees it, and the kind (3
+ * directional, 2 spot, 1 point); unit direction as the view sees it (0, 0, 0 where it has no length), and falloff, 1e-6 at
+ * least; diffuse rgb and specular alpha; ambient rgb and the spot's offset; attenuation 0 to 2 and range; specular rgb and
+ * the spot's scale. light_active_mask is 0, for no rows, or the first byte of ff_compacted_light_masks. Refuses 9, 4, 5. */
+uint32_t ff_fill_lights_section(const uint8_t *image, size_t image_len, FF_KEY, uint8_t *dst, size_t dst_len);
 
 /* Arithmetic, without an image */
 

@@ -4,7 +4,46 @@ use std::error::Error;
 
 use ff_state::{
     ALL_DIRTY, Color, D3DLIGHT_SPOT, D3DTS_VIEW, D3DTS_WORLD, FfImage, Light, Material, Matrix,
+    VsKey,
 };
+
+/// Packs each section, and prints its rows.
+fn pack(state: &FfImage) -> Result<(), Box<dyn Error>> {
+    let key = VsKey {
+        lighting_enabled: true,
+        light_active_mask: state.compacted_light_masks().active,
+        vertex_blend_count: 2,
+        ..VsKey::default()
+    };
+    println!("rows of the draw: {}", state.vs_row_count(&key));
+    let counts = [
+        state.wv_section_rows(&key),
+        state.proj_section_rows(&key),
+        state.material_section_rows(&key),
+        state.lights_section_rows(&key),
+        state.palette_section_rows(&key),
+        state.tt_section_rows(&key),
+    ];
+    println!("rows of its sections: {counts:?}");
+    println!("WV, row 0: {:?}", state.fill_wv_section(&key)[0]);
+    println!("PROJ, row 0: {:?}", state.fill_proj_section(&key)[0]);
+    println!(
+        "MATERIAL, row 0: {:?}",
+        state.fill_material_section(&key)[0]
+    );
+    let lights = state.fill_lights_section(&key)?;
+    println!("LIGHTS, rows 0 and 1: {:?} {:?}", lights[0], lights[1]);
+    println!("PALETTE, row 4: {:?}", state.fill_palette_section(&key)[4]);
+    println!("TT: {:?}", state.fill_tt_section(&key));
+    let wrong = VsKey {
+        light_active_mask: 2,
+        ..key
+    };
+    if let Err(refusal) = state.fill_lights_section(&wrong) {
+        println!("light mask 2: {refusal}");
+    }
+    Ok(())
+}
 
 fn main() -> Result<(), Box<dyn Error>> {
     let mut state = FfImage::fresh();
@@ -51,6 +90,8 @@ fn main() -> Result<(), Box<dyn Error>> {
     if let Err(refusal) = state.get_light_at(0) {
         println!("light 0: {refusal}");
     }
+
+    pack(&state)?;
 
     state.mark_ff_vs_dirty(ALL_DIRTY)?;
     let stored = *state.as_bytes();

@@ -14,12 +14,23 @@
 //! # Ok::<(), Refusal>(())
 //! ```
 //!
+//! The rows that a draw hands to its shader are packed section by section, under a [`VsKey`]:
+//!
+//! ```
+//! use ff_state::{FfImage, VsKey};
+//!
+//! let state = FfImage::fresh();
+//! let rows = state.fill_wv_section(&VsKey::default());
+//! assert_eq!(rows[0], [1.0, 0.0, 0.0, 0.0]);
+//! ```
+//!
 //! A NaN of any bit pattern is a NaN: what is stored and answered is 0x7FC00000.
 
 #![warn(missing_docs)]
 
 mod arithmetic;
 mod image;
+mod packing;
 mod raw;
 mod records;
 mod refusal;
@@ -29,6 +40,7 @@ pub use image::{
     ALL_DIRTY, D3DTS_PROJECTION, D3DTS_TEXTURE0, D3DTS_VIEW, D3DTS_WORLD, FfImage, LightMasks,
     OVERFLOW_LIGHTS,
 };
+pub use packing::{Row, VsKey};
 pub use records::{
     Color, D3DLIGHT_DIRECTIONAL, D3DLIGHT_POINT, D3DLIGHT_SPOT, Light, Material, Matrix, Vector,
 };

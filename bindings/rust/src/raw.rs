@@ -88,3 +88,21 @@ unsafe extern "C" {
     pub safe fn ff_sqrt(x: u32) -> u32;
     pub safe fn ff_cos(x: u32) -> u32;
 }
+
+// The seven numbers in the middle are a key's.
+#[rustfmt::skip]
+unsafe extern "C" {
+    pub fn ff_vs_row_count(image: *const u8, image_len: usize, has_rhw: u8, lit: u8, specular: u8, indexed: u8, mask: u8, fog: u8, count: u8, out: *mut u32) -> u32;
+    pub fn ff_wv_section_rows(image: *const u8, image_len: usize, has_rhw: u8, lit: u8, specular: u8, indexed: u8, mask: u8, fog: u8, count: u8, out: *mut u32) -> u32;
+    pub fn ff_proj_section_rows(image: *const u8, image_len: usize, has_rhw: u8, lit: u8, specular: u8, indexed: u8, mask: u8, fog: u8, count: u8, out: *mut u32) -> u32;
+    pub fn ff_material_section_rows(image: *const u8, image_len: usize, has_rhw: u8, lit: u8, specular: u8, indexed: u8, mask: u8, fog: u8, count: u8, out: *mut u32) -> u32;
+    pub fn ff_lights_section_rows(image: *const u8, image_len: usize, has_rhw: u8, lit: u8, specular: u8, indexed: u8, mask: u8, fog: u8, count: u8, out: *mut u32) -> u32;
+    pub fn ff_palette_section_rows(image: *const u8, image_len: usize, has_rhw: u8, lit: u8, specular: u8, indexed: u8, mask: u8, fog: u8, count: u8, out: *mut u32) -> u32;
+    pub fn ff_tt_section_rows(image: *const u8, image_len: usize, has_rhw: u8, lit: u8, specular: u8, indexed: u8, mask: u8, fog: u8, count: u8, out: *mut u32) -> u32;
+    pub fn ff_fill_wv_section(image: *const u8, image_len: usize, has_rhw: u8, lit: u8, specular: u8, indexed: u8, mask: u8, fog: u8, count: u8, dst: *mut u8, dst_len: usize) -> u32;
+    pub fn ff_fill_proj_section(image: *const u8, image_len: usize, has_rhw: u8, lit: u8, specular: u8, indexed: u8, mask: u8, fog: u8, count: u8, dst: *mut u8, dst_len: usize) -> u32;
+    pub fn ff_fill_material_section(image: *const u8, image_len: usize, has_rhw: u8, lit: u8, specular: u8, indexed: u8, mask: u8, fog: u8, count: u8, dst: *mut u8, dst_len: usize) -> u32;
+    pub fn ff_fill_lights_section(image: *const u8, image_len: usize, has_rhw: u8, lit: u8, specular: u8, indexed: u8, mask: u8, fog: u8, count: u8, dst: *mut u8, dst_len: usize) -> u32;
+    pub fn ff_fill_palette_section(image: *const u8, image_len: usize, has_rhw: u8, lit: u8, specular: u8, indexed: u8, mask: u8, fog: u8, count: u8, dst: *mut u8, dst_len: usize) -> u32;
+    pub fn ff_fill_tt_section(image: *const u8, image_len: usize, has_rhw: u8, lit: u8, specular: u8, indexed: u8, mask: u8, fog: u8, count: u8, dst: *mut u8, dst_len: usize) -> u32;
+}

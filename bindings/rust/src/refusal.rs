@@ -15,6 +15,9 @@ pub enum Refusal {
     LightsFull = 3,
     /// A slice is not as long as its item.
     WrongLength = 4,
+    /// The key's light mask is not 0 and not that of the lights that light
+    /// ([`FfImage::compacted_light_masks`](crate::FfImage::compacted_light_masks)).
+    WrongMask = 5,
     /// The determinant equals 0 or is not finite.
     Singular = 6,
     /// Dirty bits above [`ALL_DIRTY`](crate::ALL_DIRTY).
@@ -24,11 +27,12 @@ pub enum Refusal {
 }
 
 impl Refusal {
-    const ALL: [Self; 7] = [
+    const ALL: [Self; 8] = [
         Self::UnknownState,
         Self::UndefinedLight,
         Self::LightsFull,
         Self::WrongLength,
+        Self::WrongMask,
         Self::Singular,
         Self::UnknownBits,
         Self::NoImage,
@@ -48,6 +52,7 @@ impl Refusal {
             Self::UndefinedLight => "no light is defined at this index",
             Self::LightsFull => "no room for another light of index 8 or more",
             Self::WrongLength => "a slice has the wrong length",
+            Self::WrongMask => "the key's light mask is not that of the lights that light",
             Self::Singular => "the matrix has no inverse",
             Self::UnknownBits => "dirty bits above the six",
             Self::NoImage => "the bytes are no state image",

@@ -3,6 +3,7 @@
 mod damages;
 
 use crate::call::{Call, Gives, LIGHT, MATERIAL, MATRIX, NAMES, Name};
+use crate::damage::Damage;
 use crate::floats::SPECIAL;
 use crate::image::{ROOM, SLOTS};
 use crate::matrices::{self, KINDS};
@@ -86,6 +87,18 @@ pub fn list(seed: u64, number: u64) -> Vec<Call> {
         damage,
     };
     (0..LENGTH).map(|at| list.call(at)).collect()
+}
+
+/// A damage by itself, for a state with few lights from index 8 on.
+#[must_use]
+pub fn damage(random: &mut Random) -> Damage {
+    List {
+        random,
+        pool: vec![8, 9, 70],
+        lit: 0,
+        damage: 1,
+    }
+    .damage()
 }
 
 fn overflow_index(random: &mut Random) -> u32 {

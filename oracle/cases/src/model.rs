@@ -20,6 +20,7 @@ pub mod refusal {
     pub const UNDEFINED_LIGHT: u32 = 2;
     pub const TABLE_FULL: u32 = 3;
     pub const WRONG_LENGTH: u32 = 4;
+    pub const WRONG_MASK: u32 = 5;
     pub const UNKNOWN_BITS: u32 = 7;
     pub const NO_IMAGE: u32 = 9;
 }
@@ -45,7 +46,7 @@ pub enum Output {
 pub type Answer = Result<Output, u32>;
 
 pub struct Model {
-    rust: FfState,
+    pub(crate) rust: FfState,
     /// The stored light indices of 8 or more.
     overflow: BTreeSet<u32>,
     /// The highest palette index where an image brought one below the Rust's, which only rises.
@@ -155,7 +156,7 @@ impl Model {
     }
 
     /// The Rust answers with them only through a key: one of a lit draw that is not transformed.
-    fn compacted_light_masks(&self) -> [u8; 3] {
+    pub(crate) fn compacted_light_masks(&self) -> [u8; 3] {
         let mut render_states = [0; RENDER_STATE_COUNT];
         render_states[D3DRS_LIGHTING as usize] = 1;
         let layout = FfVsLayout {

@@ -188,6 +188,81 @@ bends! {
         TakeForgets, "take-forgets", ["calls"];
         TakeRefusalNumber, "take-refusal-number", ["calls"];
     }
+    "ff_vs_row_count" {
+        CountOff, "count-off", ["row-count", "packs"];
+        CountFog, "count-fog", ["row-count"];
+        CountRhwDropped, "count-rhw-dropped", ["row-count"];
+        CountFlagLow, "count-flag-low", ["row-count"];
+        CountCap, "count-cap", ["row-count"];
+        CountRefusalNumber, "count-refusal-number", ["packs"];
+    }
+    "ff_material_section_rows" {
+        MaterialRowsUnlit, "material-rows-unlit", ["packs"];
+    }
+    "ff_lights_section_rows" {
+        LightsRowsOnes, "lights-rows-ones", ["packs"];
+        LightsRowsUnlit, "lights-rows-unlit", ["packs"];
+    }
+    "ff_palette_section_rows" {
+        PaletteRowsCap, "palette-rows-cap", ["packs"];
+    }
+    "ff_tt_section_rows" {
+        TtRowsStages, "tt-rows-stages", ["packs"];
+    }
+    "ff_fill_wv_section" {
+        WvUntransposed, "wv-untransposed", ["packs"];
+        WvSwapped, "wv-swapped", ["packs"];
+        WvIdentity, "wv-identity", ["packs"];
+        WvNan, "wv-nan", ["packs"];
+        WvLooksAtRhw, "wv-looks-at-rhw", ["packs"];
+        WvRefusalWrites, "wv-refusal-writes", ["packs"];
+        WvTakesBit, "wv-takes-bit", ["packs"];
+        WvGuard, "wv-guard", ["packs"];
+    }
+    "ff_fill_proj_section" {
+        ProjLonger, "proj-longer", ["packs"];
+    }
+    "ff_fill_material_section" {
+        MaterialSwapped, "material-swapped", ["packs"];
+        MaterialPower, "material-power", ["packs"];
+        MaterialSpecularUnlit, "material-specular-unlit", ["packs"];
+        MaterialFlagOne, "material-flag-one", ["packs"];
+        MaterialFlagLow, "material-flag-low", ["packs"];
+    }
+    "ff_fill_lights_section" {
+        LightsMaskFirst, "lights-mask-first", ["packs"];
+        LightsMaskZero, "lights-mask-zero", ["packs"];
+        LightsMaskSlots, "lights-mask-slots", ["packs"];
+        LightsAnyLength, "lights-any-length", ["packs"];
+        LightsUnlit, "lights-unlit", ["packs"];
+        LightsLooksAtRhw, "lights-looks-at-rhw", ["packs"];
+        LightsRefusalWrites, "lights-refusal-writes", ["packs"];
+        LightsNan, "lights-nan", ["packs"];
+        LightsKinds, "lights-kinds", ["packs"];
+        LightsFalloff, "lights-falloff", ["packs"];
+        LightsFalloffNan, "lights-falloff-nan", ["packs"];
+        LightsAlpha, "lights-alpha", ["packs"];
+        LightsOffset, "lights-offset", ["packs"];
+        LightsRange, "lights-range", ["packs"];
+        LightsScale, "lights-scale", ["packs"];
+        LightsUnnormalized, "lights-unnormalized", ["packs"];
+        LightsLong, "lights-long", ["packs"];
+        LightsZeroSign, "lights-zero-sign", ["packs"];
+        LightsRowsSwapped, "lights-rows-swapped", ["packs"];
+        LightsReversed, "lights-reversed", ["packs"];
+    }
+    "ff_fill_palette_section" {
+        PaletteCap, "palette-cap", ["packs"];
+        PaletteForty, "palette-forty-one", ["packs"];
+        PaletteIndexedCount, "palette-indexed-count", ["packs"];
+        PaletteIndexedAlways, "palette-indexed-always", ["packs"];
+        PaletteAnyLength, "palette-any-length", ["packs"];
+        PaletteUnviewed, "palette-unviewed", ["packs"];
+        PaletteFirst, "palette-first", ["packs"];
+    }
+    "ff_fill_tt_section" {
+        TtStages, "tt-stages", ["packs"];
+    }
 }
 
 pub fn named(name: &str) -> Option<Bend> {

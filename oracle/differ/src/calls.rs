@@ -1,71 +1,17 @@
 //! Lists of calls on a running image, ours beside document 01's host over the unchanged Rust.
 
-use std::sync::atomic::{AtomicU64, Ordering};
-use std::thread;
-use std::time::Duration;
-
 use cases::call::Call;
 use cases::edges::edges;
-use cases::image;
 use cases::lists::{LENGTH, list};
-use cases::model::{Answer, Output};
 use cases::world::{Judged, World};
 
 use crate::guarded::Guarded;
+use crate::handed::{Handed, unlike_image};
 use crate::host::{Host, Lent};
 use crate::report::{Difference, Outcome, Run};
 use crate::shrink_list::shrink;
 use crate::tally::Tally;
-
-const THREADS: usize = 2;
-/// What a lent number and those beside it hold before a call.
-const NUMBER: u32 = 0xA5A5_5A5A;
-
-/// What a call is handed beside the image: its item, a lent slice, and a lent number between two others.
-#[derive(Clone)]
-struct Handed {
-    given: Guarded,
-    out: Guarded,
-    numbers: [u32; 3],
-}
-
-impl Handed {
-    fn new(call: &Call, shift: usize) -> Self {
-        Self {
-            given: Guarded::holding(&call.given, shift / 4),
-            out: Guarded::new(call.lent, shift / 16),
-            numbers: [NUMBER; 3],
-        }
-    }
-
-    /// The same after a call with this answer.
-    fn answered(mut self, answer: &Answer) -> Self {
-        match answer {
-            Ok(Output::Bytes(bytes)) => self.out.slice_mut().copy_from_slice(bytes),
-            Ok(Output::Number(number)) => self.numbers[1] = *number,
-            Ok(Output::Nothing) | Err(_) => {}
-        }
-        self
-    }
-
-    fn unlike(&self, expected: &Self) -> Option<String> {
-        if self.out != expected.out {
-            let [expected, ours] = [expected, self].map(|handed| hex(handed.out.slice()));
-            Some(format!(
-                "the lent slice, or the bytes around it: expected {expected}, ours {ours}"
-            ))
-        } else if self.numbers != expected.numbers {
-            Some(format!(
-                "the lent number, or those beside it: expected {:08x?}, ours {:08x?}",
-                expected.numbers, self.numbers
-            ))
-        } else if self.given != expected.given {
-            Some("the bytes of an argument".to_string())
-        } else {
-            None
-        }
-    }
-}
+use crate::workers::first_failing;
 
 /// Makes one call on both sides. `running` holds our image, which is the world's until they differ.
 /// The answer says what is unlike.
@@ -83,7 +29,7 @@ fn step(
     });
     let before = damaged.clone();
     let judged = world.judge(call, before.as_ref().map(Guarded::slice));
-    let mut handed = Handed::new(call, shift);
+    let mut handed = Handed::new(&call.given, call.lent, shift);
     let expected = handed.clone().answered(&judged.answer);
 
     let image = damaged.as_mut().unwrap_or(running);
@@ -117,21 +63,6 @@ fn step(
         *running = damaged;
     }
     (judged, found)
-}
-
-fn unlike_image(ours: &[u8], expected: &[u8]) -> String {
-    let mut unlike = ours.iter().zip(expected).enumerate();
-    match unlike.find(|(_, (a, b))| a != b) {
-        Some((at, (ours, expected))) => format!(
-            "image, byte {at} ({}): expected {expected:02x}, ours {ours:02x}",
-            image::region(at)
-        ),
-        None => "the image's length".to_string(),
-    }
-}
-
-fn hex(bytes: &[u8]) -> String {
-    bytes.iter().map(|byte| format!("{byte:02x}")).collect()
 }
 
 /// Runs a list; the answer is the place of the first call that is unlike, and what is unlike there.
@@ -191,44 +122,22 @@ fn edge_lists(host: Host, tally: &mut Tally) -> Outcome {
     Ok(())
 }
 
-/// At least `count` calls, in lists of `LENGTH`, on two threads. Of the lists that fail the first
-/// is told.
+/// At least `count` calls, in lists of `LENGTH`. Of the lists that fail the first is told.
 fn random_lists(run: &mut Run, host: Host, count: u64, tally: &mut Tally) -> Outcome {
     let lists = count.div_ceil(LENGTH as u64);
     let seed = run.seed;
-    let next = AtomicU64::new(0);
-    let least = AtomicU64::new(lists);
-    let tallies = thread::scope(|scope| {
-        let workers = [(); THREADS].map(|()| {
-            scope.spawn(|| {
-                let mut tally = Tally::default();
-                loop {
-                    let number = next.fetch_add(1, Ordering::Relaxed);
-                    // Lists are handed out in order, so no later one can be the first to fail.
-                    if number >= least.load(Ordering::Relaxed) {
-                        return tally;
-                    }
-                    let calls = list(seed, number);
-                    if run_list(host, &calls, number as usize, &mut tally).is_some() {
-                        least.fetch_min(number, Ordering::Relaxed);
-                    }
-                }
-            })
-        });
-        while workers.iter().any(|worker| !worker.is_finished()) {
-            thread::sleep(Duration::from_millis(10));
-            let done = next.load(Ordering::Relaxed).min(lists);
-            run.progress_of("calls", done * LENGTH as u64, count);
-        }
-        workers.map(|worker| worker.join().expect("the model agrees with the Rust"))
-    });
+    let passes = |number: u64, tally: &mut Tally| {
+        run_list(host, &list(seed, number), number as usize, tally).is_none()
+    };
+    let (failing, tallies) = first_failing(run, "calls", lists, LENGTH as u64, passes);
     tallies.iter().for_each(|other| tally.add(other));
-    let least = least.into_inner();
-    if least == lists {
-        return Ok(());
+    match failing {
+        None => Ok(()),
+        Some(number) => {
+            let what = format!("seed {seed}, list {number}");
+            Err(difference(host, &what, list(seed, number), number as usize))
+        }
     }
-    let what = format!("seed {seed}, list {least}");
-    Err(difference(host, &what, list(seed, least), least as usize))
 }
 
 /// The edges, then at least `count` calls in random lists.

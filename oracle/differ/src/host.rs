@@ -1,102 +1,10 @@
 //! Our library, as the host sees it (HOST-ABI.md), with the bends of the self-test in between.
 
 use cases::call::{Call, Name};
+use cases::packing::{self, Pack};
 
 use crate::bends::Bend;
-use crate::{bend, bend_calls};
-
-/// The calls by their C names.
-pub mod raw {
-    unsafe extern "C" {
-        pub safe fn ff_sqrt(x: u32) -> u32;
-        pub safe fn ff_cos(x: u32) -> u32;
-        pub fn ff_mat_mul(
-            a: *const u8,
-            a_len: usize,
-            b: *const u8,
-            b_len: usize,
-            out: *mut u8,
-            out_len: usize,
-        ) -> u32;
-        pub fn ff_transpose(m: *const u8, m_len: usize, out: *mut u8, out_len: usize) -> u32;
-        pub fn ff_inverse(m: *const u8, m_len: usize, out: *mut u8, out_len: usize) -> u32;
-
-        pub fn ff_image_fresh(image: *mut u8, image_len: usize) -> u32;
-        pub fn ff_image_check(image: *const u8, image_len: usize) -> u32;
-        pub fn ff_set_transform(
-            image: *mut u8,
-            image_len: usize,
-            state: u32,
-            matrix: *const u8,
-            matrix_len: usize,
-        ) -> u32;
-        pub fn ff_multiply_transform(
-            image: *mut u8,
-            image_len: usize,
-            state: u32,
-            matrix: *const u8,
-            matrix_len: usize,
-        ) -> u32;
-        pub fn ff_transform(
-            image: *const u8,
-            image_len: usize,
-            state: u32,
-            out: *mut u8,
-            out_len: usize,
-        ) -> u32;
-        pub fn ff_world_palette_used(image: *const u8, image_len: usize, out: *mut u32) -> u32;
-        pub fn ff_world_view_projection(
-            image: *const u8,
-            image_len: usize,
-            out: *mut u8,
-            out_len: usize,
-        ) -> u32;
-        pub fn ff_set_material(
-            image: *mut u8,
-            image_len: usize,
-            material: *const u8,
-            material_len: usize,
-        ) -> u32;
-        pub fn ff_material(image: *const u8, image_len: usize, out: *mut u8, out_len: usize)
-        -> u32;
-        pub fn ff_set_light_at(
-            image: *mut u8,
-            image_len: usize,
-            index: u32,
-            light: *const u8,
-            light_len: usize,
-        ) -> u32;
-        pub fn ff_set_light_enabled_at(
-            image: *mut u8,
-            image_len: usize,
-            index: u32,
-            enabled: u32,
-        ) -> u32;
-        pub fn ff_get_light_at(
-            image: *const u8,
-            image_len: usize,
-            index: u32,
-            out: *mut u8,
-            out_len: usize,
-        ) -> u32;
-        pub fn ff_is_light_enabled_at(
-            image: *const u8,
-            image_len: usize,
-            index: u32,
-            out: *mut u32,
-        ) -> u32;
-        pub fn ff_is_light_defined_at(
-            image: *const u8,
-            image_len: usize,
-            index: u32,
-            out: *mut u32,
-        ) -> u32;
-        pub fn ff_vs_source_light_inputs(image: *const u8, image_len: usize, out: *mut u32) -> u32;
-        pub fn ff_compacted_light_masks(image: *const u8, image_len: usize, out: *mut u32) -> u32;
-        pub fn ff_mark_ff_vs_dirty(image: *mut u8, image_len: usize, bits: u32) -> u32;
-        pub fn ff_take_ff_vs_dirty(image: *mut u8, image_len: usize, out: *mut u32) -> u32;
-    }
-}
+use crate::{bend, bend_calls, bend_packs, raw};
 
 pub const SQRT: &str = "ff_sqrt";
 pub const COS: &str = "ff_cos";
@@ -158,6 +66,20 @@ impl Host {
             Some(bend) => bend_calls::call(bend, call, lent),
         }
     }
+
+    pub fn pack(self, pack: &Pack, lent: LentToPack<'_>) -> u32 {
+        match self.bend {
+            None => pack_section(pack.name, pack.key.fields(), lent),
+            Some(bend) => bend_packs::pack(bend, pack, lent),
+        }
+    }
+}
+
+/// What a packing call is lent.
+pub struct LentToPack<'a> {
+    pub image: &'a [u8],
+    pub dst: &'a mut [u8],
+    pub number: &'a mut u32,
 }
 
 /// What a call on an image is lent beside its numbers.
@@ -209,6 +131,54 @@ pub fn on_image(call: &Call, lent: Lent<'_>) -> u32 {
             Name::TakeFfVsDirty => raw::ff_take_ff_vs_dirty(image, image_len, number),
         }
     }
+}
+
+/// A call that answers with a number, and one that fills a slice.
+type Counts = unsafe extern "C" fn(*const u8, usize, u8, u8, u8, u8, u8, u8, u8, *mut u32) -> u32;
+type Fills =
+    unsafe extern "C" fn(*const u8, usize, u8, u8, u8, u8, u8, u8, u8, *mut u8, usize) -> u32;
+
+/// Makes the packing call; of what is lent it is handed what its form has.
+pub fn pack_section(name: packing::Name, key: [u8; 7], lent: LentToPack<'_>) -> u32 {
+    use packing::Name as Packs;
+    let counts: Counts = match name {
+        Packs::RowCount => raw::ff_vs_row_count,
+        Packs::WvRows => raw::ff_wv_section_rows,
+        Packs::ProjRows => raw::ff_proj_section_rows,
+        Packs::MaterialRows => raw::ff_material_section_rows,
+        Packs::LightsRows => raw::ff_lights_section_rows,
+        Packs::PaletteRows => raw::ff_palette_section_rows,
+        Packs::TtRows => raw::ff_tt_section_rows,
+        Packs::FillWv => return fill(raw::ff_fill_wv_section, key, lent),
+        Packs::FillProj => return fill(raw::ff_fill_proj_section, key, lent),
+        Packs::FillMaterial => return fill(raw::ff_fill_material_section, key, lent),
+        Packs::FillLights => return fill(raw::ff_fill_lights_section, key, lent),
+        Packs::FillPalette => return fill(raw::ff_fill_palette_section, key, lent),
+        Packs::FillTt => return fill(raw::ff_fill_tt_section, key, lent),
+    };
+    let (image, [a, b, c, d, e, f, g]) = (lent.image, key);
+    // SAFETY: the pointer goes with its slice's length, and the number is apart from it.
+    unsafe {
+        counts(
+            image.as_ptr(),
+            image.len(),
+            a,
+            b,
+            c,
+            d,
+            e,
+            f,
+            g,
+            lent.number,
+        )
+    }
+}
+
+fn fill(fills: Fills, key: [u8; 7], lent: LentToPack<'_>) -> u32 {
+    let (image, dst, [a, b, c, d, e, f, g]) = (lent.image, lent.dst, key);
+    let (to, len) = (dst.as_mut_ptr(), dst.len());
+    // SAFETY: each pointer goes with its slice's length, and the two are apart.
+    unsafe { fills(image.as_ptr(), image.len(), a, b, c, d, e, f, g, to, len) }
 }
 
 pub fn mat_mul(a: &[u8], b: &[u8], out: &mut [u8]) -> u32 {

@@ -3,21 +3,27 @@
 
 mod bend;
 mod bend_calls;
+mod bend_packs;
 mod bends;
 mod bent;
 mod bytes;
 mod calls;
 mod guarded;
+mod handed;
 mod host;
 mod lengths;
 mod matrices;
+mod packs;
+mod raw;
 mod report;
 mod scalars;
 mod self_test;
 mod shrink;
 mod shrink_list;
+mod shrink_pack;
 mod tally;
 mod vectors;
+mod workers;
 
 use std::hint::black_box;
 use std::process::ExitCode;
@@ -27,6 +33,8 @@ use report::{Outcome, Run};
 
 const DIFFERENT: u8 = 1;
 const UNUSABLE: u8 = 2;
+/// The short run tries one count of so many.
+const SPARSE: usize = 51;
 
 struct Arguments {
     command: String,
@@ -80,7 +88,9 @@ fn short(run: &mut Run, host: Host) -> Result<Outcome, String> {
         .and_then(|()| scalars::cosines(run, host, 2_000_000))
         .and_then(|()| matrices::matrices(run, host, 400_000))
         .and_then(|()| lengths::lengths(run, host))
-        .and_then(|()| calls::calls(run, host, 500_000)))
+        .and_then(|()| calls::calls(run, host, 500_000))
+        .and_then(|()| packs::packs(run, host, 300_000))
+        .and_then(|()| packs::row_counts(run, host, SPARSE)))
 }
 
 fn compare(run: &mut Run, arguments: &Arguments) -> Result<Outcome, String> {
@@ -94,6 +104,13 @@ fn compare(run: &mut Run, arguments: &Arguments) -> Result<Outcome, String> {
         "matrix" => matrices::matrices(run, host, count(5_000_000)),
         "lengths" => lengths::lengths(run, host),
         "calls" => calls::calls(run, host, count(20_000_000)),
+        "packs" => packs::packs(run, host, count(20_000_000)),
+        "row-count" => {
+            let some = arguments
+                .count
+                .is_some_and(|count| count < packs::ROW_COUNTS);
+            packs::row_counts(run, host, if some { SPARSE } else { 1 })
+        }
         "root-vectors" => vectors::roots(run, host)?,
         "cos-vectors" => {
             let outcome = vectors::cosines(run, host)?;

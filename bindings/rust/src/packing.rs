@@ -1,0 +1,162 @@
+//! Packing: the rows of the shader's constants, by section.
+
+use crate::image::FfImage;
+use crate::raw;
+use crate::refusal::Refusal;
+
+/// A row of the shader's constants.
+pub type Row = [f32; 4];
+
+const ROW_BYTES: usize = 16;
+
+/// What of a shader's key the rows depend on.
+#[derive(Clone, Copy, Debug, Default, PartialEq, Eq, Hash)]
+pub struct VsKey {
+    /// The vertices are transformed already. Only the row count looks at it.
+    pub has_rhw: bool,
+    /// Lighting is on.
+    pub lighting_enabled: bool,
+    /// Specular highlights are on.
+    pub specular_enable: bool,
+    /// Blending picks its matrices by an index in each vertex.
+    pub vertex_blend_indexed: bool,
+    /// 0, or [`LightMasks::active`](crate::LightMasks::active) of [`FfImage::compacted_light_masks`].
+    pub light_active_mask: u8,
+    /// The vertex fog; no row and no count depends on it.
+    pub fog_mode: u8,
+    /// How many matrices blend; 0 where none do.
+    pub vertex_blend_count: u8,
+}
+
+type Counting = unsafe extern "C" fn(*const u8, usize, u8, u8, u8, u8, u8, u8, u8, *mut u32) -> u32;
+type Filling =
+    unsafe extern "C" fn(*const u8, usize, u8, u8, u8, u8, u8, u8, u8, *mut u8, usize) -> u32;
+
+impl FfImage {
+    /// How many rows of constants a draw reads, from row 0 on: from 1 to 1,115.
+    #[must_use]
+    pub fn vs_row_count(&self, key: &VsKey) -> usize {
+        self.counted(raw::ff_vs_row_count, key) as usize
+    }
+
+    /// 4.
+    #[must_use]
+    pub fn wv_section_rows(&self, key: &VsKey) -> usize {
+        self.counted(raw::ff_wv_section_rows, key) as usize
+    }
+
+    /// 4.
+    #[must_use]
+    pub fn proj_section_rows(&self, key: &VsKey) -> usize {
+        self.counted(raw::ff_proj_section_rows, key) as usize
+    }
+
+    /// Unlit 1, lit 4, lit with specular 5.
+    #[must_use]
+    pub fn material_section_rows(&self, key: &VsKey) -> usize {
+        self.counted(raw::ff_material_section_rows, key) as usize
+    }
+
+    /// 6 for each light up to the mask's highest bit.
+    #[must_use]
+    pub fn lights_section_rows(&self, key: &VsKey) -> usize {
+        self.counted(raw::ff_lights_section_rows, key) as usize
+    }
+
+    /// 4 for each matrix: 40 of them where indexed, else the count, none at count 0.
+    #[must_use]
+    pub fn palette_section_rows(&self, key: &VsKey) -> usize {
+        self.counted(raw::ff_palette_section_rows, key) as usize
+    }
+
+    /// None: the texture mask counts as 0.
+    #[must_use]
+    pub fn tt_section_rows(&self, key: &VsKey) -> usize {
+        self.counted(raw::ff_tt_section_rows, key) as usize
+    }
+
+    /// The columns of world matrix 0 × view.
+    #[must_use]
+    pub fn fill_wv_section(&self, key: &VsKey) -> Vec<Row> {
+        let rows = self.wv_section_rows(key);
+        self.filled(raw::ff_fill_wv_section, key, rows)
+            .expect("as many rows as the library counts are accepted")
+    }
+
+    /// The columns of the projection.
+    #[must_use]
+    pub fn fill_proj_section(&self, key: &VsKey) -> Vec<Row> {
+        let rows = self.proj_section_rows(key);
+        self.filled(raw::ff_fill_proj_section, key, rows)
+            .expect("as many rows as the library counts are accepted")
+    }
+
+    /// Diffuse; lit ambient, specular and emissive too; lit with specular (power, 0, 0, 0).
+    #[must_use]
+    pub fn fill_material_section(&self, key: &VsKey) -> Vec<Row> {
+        let rows = self.material_section_rows(key);
+        self.filled(raw::ff_fill_material_section, key, rows)
+            .expect("as many rows as the library counts are accepted")
+    }
+
+    /// Six rows for each light that lights, by ascending index, or [`Refusal::WrongMask`]:
+    /// - position in view space, and the kind: 3 directional, 2 spot, 1 point;
+    /// - unit direction in view space (zeros where it has no length), and falloff, 1e-6 at least;
+    /// - diffuse rgb, and specular alpha;
+    /// - ambient rgb, and the spot's offset;
+    /// - attenuation 0 to 2, and range;
+    /// - specular rgb, and the spot's scale.
+    pub fn fill_lights_section(&self, key: &VsKey) -> Result<Vec<Row>, Refusal> {
+        let rows = self.lights_section_rows(key);
+        self.filled(raw::ff_fill_lights_section, key, rows)
+    }
+
+    /// The columns of world matrix i × view, by ascending i.
+    #[must_use]
+    pub fn fill_palette_section(&self, key: &VsKey) -> Vec<Row> {
+        let rows = self.palette_section_rows(key);
+        self.filled(raw::ff_fill_palette_section, key, rows)
+            .expect("as many rows as the library counts are accepted")
+    }
+
+    /// No rows.
+    #[must_use]
+    pub fn fill_tt_section(&self, key: &VsKey) -> Vec<Row> {
+        let rows = self.tt_section_rows(key);
+        self.filled(raw::ff_fill_tt_section, key, rows)
+            .expect("as many rows as the library counts are accepted")
+    }
+
+    fn counted(&self, count: Counting, key: &VsKey) -> u32 {
+        let mut out = 0;
+        let (image, [a, b, c, d, e, f, g]) = (self.as_bytes(), fields(key));
+        // SAFETY: the pointer goes with the array's length, and `out` is apart from it.
+        let answer = unsafe { count(image.as_ptr(), image.len(), a, b, c, d, e, f, g, &mut out) };
+        Refusal::of(answer).expect("the bytes of an FfImage are an image");
+        out
+    }
+
+    fn filled(&self, fill: Filling, key: &VsKey, rows: usize) -> Result<Vec<Row>, Refusal> {
+        let mut dst = vec![0; ROW_BYTES * rows];
+        let (image, [a, b, c, d, e, f, g]) = (self.as_bytes(), fields(key));
+        let (to, len) = (dst.as_mut_ptr(), dst.len());
+        // SAFETY: each pointer goes with its slice's length, and the two are apart.
+        Refusal::of(unsafe { fill(image.as_ptr(), image.len(), a, b, c, d, e, f, g, to, len) })?;
+        let fours = dst.as_chunks().0.iter();
+        let floats: Vec<f32> = fours.map(|&four| f32::from_le_bytes(four)).collect();
+        Ok(floats.as_chunks().0.to_vec())
+    }
+}
+
+/// The seven numbers as they cross.
+fn fields(key: &VsKey) -> [u8; 7] {
+    [
+        u8::from(key.has_rhw),
+        u8::from(key.lighting_enabled),
+        u8::from(key.specular_enable),
+        u8::from(key.vertex_blend_indexed),
+        key.light_active_mask,
+        key.fog_mode,
+        key.vertex_blend_count,
+    ]
+}
