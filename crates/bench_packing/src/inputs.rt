@@ -1,4 +1,5 @@
 // States and keys to pack.
+ghost use Prim.Native.Nat.{_<_};
 use d3d9_types::D3DLIGHT_SPOT;
 use d3d9_types::D3DLIGHT9;
 use d3d9_types::D3DMATRIX;
@@ -68,6 +69,13 @@ pub fn eight_spots() -> FfState {
     let f = with_spot(e, 5);
     let g = with_spot(f, 6);
     with_spot(g, 7)
+}
+
+// The place of a turn: sixteen in turn, so that no fill's floats are overwritten unread.
+pub fn place(i: u32) -> usize
+    ensures { λ r. ⌜ r < 16 ⌝ }
+{
+    (i % 16) as usize
 }
 
 pub fn one_if_packed(answer: PackAnswer) -> u32 {
