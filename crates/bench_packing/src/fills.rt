@@ -3,7 +3,8 @@ use crate::inputs::eight_spots;
 use crate::inputs::full_key;
 use crate::inputs::one_if_packed;
 use crate::inputs::place;
-use crate::inputs::translation;
+use crate::inputs::spread;
+use crate::inputs::spread_world;
 use ff_state::FfState;
 use packing::fill_lights_section;
 use packing::fill_material_section;
@@ -17,7 +18,7 @@ pub extern "C" fn bench_fill_wv(n: u32, x: f32, dst: &mut [f32]) -> u32 {
     if dst.len() != 256 {
         return 0;
     }
-    let mut s = FfState::new();
+    let mut s = spread_world(x);
     let key = full_key();
     let mut v = x;
     let mut packed = 0u32;
@@ -25,7 +26,7 @@ pub extern "C" fn bench_fill_wv(n: u32, x: f32, dst: &mut [f32]) -> u32 {
     while i < n {
         let at = place(i) * 16;
         i += 1;
-        let view = translation(v);
+        let view = spread(v);
         s.view = view;
         let answer = fill_wv_section(s, key, &mut dst[at..at + 16]);
         packed = wrapping_add_u32(packed, one_if_packed(answer));
@@ -47,7 +48,7 @@ pub extern "C" fn bench_fill_proj(n: u32, x: f32, dst: &mut [f32]) -> u32 {
     while i < n {
         let at = place(i) * 16;
         i += 1;
-        let projection = translation(v);
+        let projection = spread(v);
         s.projection = projection;
         let answer = fill_proj_section(s, key, &mut dst[at..at + 16]);
         packed = wrapping_add_u32(packed, one_if_packed(answer));
@@ -84,7 +85,7 @@ pub extern "C" fn bench_fill_palette(n: u32, x: f32, dst: &mut [f32]) -> u32 {
     if dst.len() != 10240 {
         return 0;
     }
-    let mut s = FfState::new();
+    let mut s = spread_world(x);
     let key = full_key();
     let mut v = x;
     let mut packed = 0u32;
@@ -92,7 +93,7 @@ pub extern "C" fn bench_fill_palette(n: u32, x: f32, dst: &mut [f32]) -> u32 {
     while i < n {
         let at = place(i) * 640;
         i += 1;
-        let view = translation(v);
+        let view = spread(v);
         s.view = view;
         let answer = fill_palette_section(s, key, &mut dst[at..at + 640]);
         packed = wrapping_add_u32(packed, one_if_packed(answer));
@@ -114,7 +115,7 @@ pub extern "C" fn bench_fill_lights(n: u32, x: f32, dst: &mut [f32]) -> u32 {
     while i < n {
         let at = place(i) * 192;
         i += 1;
-        let view = translation(v);
+        let view = spread(v);
         s.view = view;
         let answer = fill_lights_section(s, key, &mut dst[at..at + 192]);
         packed = wrapping_add_u32(packed, one_if_packed(answer));

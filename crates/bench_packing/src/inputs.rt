@@ -4,7 +4,6 @@ use d3d9_types::D3DLIGHT_SPOT;
 use d3d9_types::D3DLIGHT9;
 use d3d9_types::D3DMATRIX;
 use d3d9_types::D3DVECTOR;
-use d3d9_types::IDENTITY;
 use d3d9_types::Row;
 use d3d9_types::default_light;
 use ff_lights::set_light_at;
@@ -13,16 +12,30 @@ use ff_state::FfState;
 use packing::PackAnswer;
 use sections::FfVsKey;
 
-pub fn translation(x: f32) -> D3DMATRIX {
-    let mut m = IDENTITY;
-    let last = Row {
+fn spread_row(x: f32) -> Row {
+    Row {
         x,
-        y: 2.0,
-        z: 3.0,
-        w: 1.0,
-    };
-    m.r3 = last;
-    m
+        y: x + 1.0,
+        z: x + 2.0,
+        w: x + 3.0,
+    }
+}
+
+// Sixteen numbers, none of them known where the loop is compiled.
+pub fn spread(x: f32) -> D3DMATRIX {
+    D3DMATRIX {
+        r0: spread_row(x),
+        r1: spread_row(x * 2.0),
+        r2: spread_row(x * 3.0),
+        r3: spread_row(x * 5.0),
+    }
+}
+
+// The fresh state with another world matrix.
+pub fn spread_world(x: f32) -> FfState {
+    let mut s = FfState::new();
+    s.world_palette[0] = spread(x);
+    s
 }
 
 // Lit and specular; eight lights; indexed, so that the palette is of 40.
