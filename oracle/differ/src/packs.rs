@@ -113,13 +113,14 @@ fn difference(host: Host, what: &str, calls: Vec<Call>, pack: &Pack, shift: usiz
     Difference { call, text }
 }
 
-/// The edges, which are the same for every seed.
-fn edges(host: Host, tally: &mut PackTally) -> Outcome {
+/// One in `step` of the edges, which are the same for every seed.
+fn edges(host: Host, step: usize, tally: &mut PackTally) -> Outcome {
     for (number, calls) in pack_edges::states().into_iter().enumerate() {
         let held = Held::new(&calls, number);
         let active = held.packed.active();
         let mut packs = pack_edges::packs(active);
         packs.extend(pack_edges::damaged(active));
+        let packs: Vec<Pack> = packs.into_iter().step_by(step).collect();
         if let Some(at) = held.first_unlike(host, &packs, tally) {
             let what = format!("edges, state {number}");
             return Err(difference(host, &what, calls, &packs[at], at));
@@ -150,10 +151,14 @@ fn random(run: &mut Run, host: Host, count: u64, tally: &mut PackTally) -> Outco
     Err(difference(host, &what, calls, &pack, at))
 }
 
+/// A run of fewer calls than this tries a few of the edges only: valgrind is slow.
+const WHOLE: u64 = 10_000;
+
 /// The edges, then at least `count` calls on states made from the seed.
 pub fn packs(run: &mut Run, host: Host, count: u64) -> Outcome {
     let mut tally = PackTally::default();
-    let outcome = edges(host, &mut tally).and_then(|()| random(run, host, count, &mut tally));
+    let step = if count < WHOLE { 7 } else { 1 };
+    let outcome = edges(host, step, &mut tally).and_then(|()| random(run, host, count, &mut tally));
     tally.tell(run);
     outcome.and_then(|()| tally.unmet())
 }
