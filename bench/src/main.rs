@@ -4,6 +4,7 @@ mod host;
 mod inputs;
 mod measure;
 mod ours;
+mod packing;
 mod theirs;
 
 use std::hint::black_box;
@@ -31,11 +32,23 @@ const PRODUCT: Option<f64> = Some(1.2);
 const ROOT: Option<f64> = Some(12.0);
 
 fn main() {
-    if std::env::args().nth(1).as_deref() != Some("host") {
-        beside_the_rust();
-        println!();
+    match std::env::args().nth(1).as_deref() {
+        Some("host") => host::table(),
+        Some("packing") => {
+            head();
+            fills();
+        }
+        _ => {
+            beside_the_rust();
+            println!();
+            host::table();
+        }
     }
-    host::table();
+}
+
+fn head() {
+    println!("| call | loop | ours, ns | Rust, ns | ratio | bound |");
+    println!("|---|---|---:|---:|---:|---:|");
 }
 
 fn beside_the_rust() {
@@ -44,8 +57,7 @@ fn beside_the_rust() {
     let links: Vec<f32> = (0..FLOATS).map(|_| random.below_four()).collect();
     let cameras: Vec<D3DMATRIX> = (0..MATRICES).map(|_| random.camera()).collect();
 
-    println!("| call | loop | ours, ns | Rust, ns | ratio | bound |");
-    println!("|---|---|---:|---:|---:|---:|");
+    head();
 
     let times = on_matrices(&cameras, ours::mat_mul, theirs::mat_mul);
     row("product", "each by the next", &times, PRODUCT);
@@ -104,7 +116,17 @@ fn on_state() {
         );
         row("vs_source_light_inputs", shape, &times, None);
     }
+    fills();
     copies();
+}
+
+fn fills() {
+    for (name, shape, times) in packing::times() {
+        match times {
+            Some(times) => row(name, shape, &times, None),
+            None => println!("| {name} | {shape} |  |  |  |  |"),
+        }
+    }
 }
 
 /// A yardstick for those: a plain copy of as many bytes.

@@ -6,6 +6,7 @@ use std::time::Instant;
 const ROUNDS: usize = 101;
 const SAMPLE: u64 = 400_000;
 
+#[derive(Clone, Copy)]
 pub struct Times {
     pub ours: f64,
     pub theirs: f64,
