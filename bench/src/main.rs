@@ -121,11 +121,8 @@ fn on_state() {
 }
 
 fn fills() {
-    for (name, shape, times) in packing::times() {
-        match times {
-            Some(times) => row(name, shape, &times, None),
-            None => println!("| {name} | {shape} |  |  |  |  |"),
-        }
+    for (name, shape, bound, times) in packing::times() {
+        row(name, shape, &times, bound);
     }
 }
 

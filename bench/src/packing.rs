@@ -5,7 +5,7 @@ use std::hint::black_box;
 use std::mem::MaybeUninit;
 
 use mtld3d_types::{
-    D3DLIGHT_SPOT, D3DLIGHT9, D3DMATRIX, D3DTS_PROJECTION, D3DTS_VIEW, D3DVECTOR,
+    D3DLIGHT_SPOT, D3DLIGHT9, D3DMATRIX, D3DTS_PROJECTION, D3DTS_VIEW, D3DTS_WORLD, D3DVECTOR,
     RENDER_STATE_COUNT,
 };
 use original::convert::{FfVsLayout, FfVsLayoutFlags};
@@ -21,6 +21,9 @@ const ROW: usize = 16;
 /// Turns of a loop on one state: enough that making it counts for little.
 const TURNS: u32 = 4096;
 
+/// The places that a loop packs into in turn, so that no fill's floats are overwritten unread.
+const PLACES: usize = 16;
+
 /// The key's numbers as they cross: lit and specular, indexed, eight lights.
 const KEY: [u8; 7] = [0, 1, 1, 1, 0xFF, 0, 1];
 
@@ -32,6 +35,9 @@ type Fills =
 mod raw {
     #[rustfmt::skip]
     unsafe extern "C" {
+        pub fn bench_fill_wv(n: u32, x: f32, dst: *mut f32, len: usize) -> u32;
+        pub fn bench_fill_proj(n: u32, x: f32, dst: *mut f32, len: usize) -> u32;
+        pub fn bench_fill_material(n: u32, x: f32, dst: *mut f32, len: usize) -> u32;
         pub fn bench_fill_palette(n: u32, x: f32, dst: *mut f32, len: usize) -> u32;
         pub fn bench_fill_lights(n: u32, x: f32, dst: *mut f32, len: usize) -> u32;
 
@@ -48,11 +54,11 @@ mod raw {
 }
 
 fn set_view(s: &mut FfState, x: f32) {
-    s.set_transform(D3DTS_VIEW, &translation(x));
+    s.set_transform(D3DTS_VIEW, &spread(x));
 }
 
 fn set_projection(s: &mut FfState, x: f32) {
-    s.set_transform(D3DTS_PROJECTION, &translation(x));
+    s.set_transform(D3DTS_PROJECTION, &spread(x));
 }
 
 fn set_power(s: &mut FfState, x: f32) {
@@ -61,9 +67,12 @@ fn set_power(s: &mut FfState, x: f32) {
     s.set_material(&material);
 }
 
-fn translation(x: f32) -> D3DMATRIX {
+/// Sixteen numbers, as in crates/bench_packing.
+fn spread(x: f32) -> D3DMATRIX {
+    let row = |x: f32| [x, x + 1.0, x + 2.0, x + 3.0];
+    let rows = [row(x), row(x * 2.0), row(x * 3.0), row(x * 5.0)];
     let mut m = D3DMATRIX::IDENTITY;
-    m.m[12..15].copy_from_slice(&[x, 2.0, 3.0]);
+    m.m.copy_from_slice(rows.as_flattened());
     m
 }
 
@@ -82,9 +91,10 @@ fn spot() -> D3DLIGHT9 {
     }
 }
 
-/// A fresh state with eight spot lights on.
-fn eight_spots() -> FfState {
+/// A fresh state with another world matrix, and eight spot lights on.
+fn eight_spots(x: f32) -> FfState {
     let mut s = FfState::new();
+    s.set_transform(D3DTS_WORLD, &spread(x));
     for index in 0..8 {
         s.set_light_at(index, &spot());
         s.set_light_enabled_at(index, true);
@@ -108,15 +118,11 @@ fn key() -> FfVsKey {
     key
 }
 
-/// The image of the same state, with the view moved by 1.
+/// The image of the same state, with the view and the world matrix of 1.
 fn image() -> Box<[u8; IMAGE]> {
     let mut image = Box::new([0; IMAGE]);
     let (i, n) = (image.as_mut_ptr(), IMAGE);
-    let matrix: Vec<u8> = translation(1.0)
-        .m
-        .iter()
-        .flat_map(|x| x.to_le_bytes())
-        .collect();
+    let matrix: Vec<u8> = spread(1.0).m.iter().flat_map(|x| x.to_le_bytes()).collect();
     let l = spot();
     let mut numbers = [0u32; LIGHT / 4];
     numbers[0] = l.type_;
@@ -140,7 +146,8 @@ fn image() -> Box<[u8; IMAGE]> {
     // SAFETY: each pointer goes with its slice's length, and no two overlap.
     let answers = unsafe {
         let fresh = raw::ff_image_fresh(i, n)
-            | raw::ff_set_transform(i, n, D3DTS_VIEW, matrix.as_ptr(), matrix.len());
+            | raw::ff_set_transform(i, n, D3DTS_VIEW, matrix.as_ptr(), matrix.len())
+            | raw::ff_set_transform(i, n, D3DTS_WORLD, matrix.as_ptr(), matrix.len());
         (0..8).fold(fresh, |answers, index| {
             answers
                 | raw::ff_set_light_at(i, n, index, light.as_ptr(), light.len())
@@ -184,15 +191,18 @@ theirs! {
     Palette, set_view, FfState::fill_palette_section;
 }
 
-/// The Rust's loop: what ours does, with the state and the rows through `black_box` at each turn.
+/// The Rust's loop: what ours does, into as many places in turn, with the state and the rows through `black_box` at
+/// each turn.
 #[inline(never)]
 fn theirs<T: Theirs>(n: u32, x: f32, key: &FfVsKey, dst: Rows) {
-    let mut s = eight_spots();
+    let rows = dst.len() / PLACES;
+    let mut s = eight_spots(x);
     let mut v = x;
-    for _ in 0..n {
+    for i in 0..n as usize {
         let s = black_box(&mut s);
         T::change(s, v);
-        T::fill(s, key, black_box(&mut *dst));
+        let at = i % PLACES * rows;
+        T::fill(s, key, black_box(&mut dst[at..at + rows]));
         v += 1.0;
     }
 }
@@ -212,49 +222,63 @@ struct Scene {
     key: FfVsKey,
 }
 
-/// A row of the table: the call, how it is made, and the times of both where it is timed.
-pub type Timed = (&'static str, &'static str, Option<Times>);
+/// The most that a fill by value may take, in times of the Rust's.
+const FEW_ROWS: f64 = 2.0;
+const LIGHTS: f64 = 4.0;
+const PALETTE: f64 = 1.4;
+
+/// A row of the table: the call, how it is made, the bound, and the times of both.
+pub type Timed = (&'static str, &'static str, Option<f64>, Times);
 
 pub fn times() -> Vec<Timed> {
-    let mut state = eight_spots();
+    let mut state = eight_spots(1.0);
     set_view(&mut state, 1.0);
     let scene = Scene {
         image: image(),
         state,
         key: key(),
     };
-    // Of the loops of crates/bench_packing those on four and five rows are compiled to a loop that only counts: the rows
-    // of the last turn are computed after it. So they time no fill.
-    let (lights, palette) = (raw::bench_fill_lights, raw::bench_fill_palette);
+    let s = &scene;
     [
-        section::<Wv>("fill_wv_section", 4, None, raw::ff_fill_wv_section, &scene),
+        section::<Wv>(
+            "fill_wv_section",
+            4,
+            FEW_ROWS,
+            raw::bench_fill_wv,
+            raw::ff_fill_wv_section,
+            s,
+        ),
         section::<Proj>(
             "fill_proj_section",
             4,
-            None,
+            FEW_ROWS,
+            raw::bench_fill_proj,
             raw::ff_fill_proj_section,
-            &scene,
+            s,
         ),
         section::<Material>(
             "fill_material_section",
             5,
-            None,
+            FEW_ROWS,
+            raw::bench_fill_material,
             raw::ff_fill_material_section,
-            &scene,
+            s,
         ),
         section::<Lights>(
             "fill_lights_section",
             48,
-            Some(lights),
+            LIGHTS,
+            raw::bench_fill_lights,
             raw::ff_fill_lights_section,
-            &scene,
+            s,
         ),
         section::<Palette>(
             "fill_palette_section",
             160,
-            Some(palette),
+            PALETTE,
+            raw::bench_fill_palette,
             raw::ff_fill_palette_section,
-            &scene,
+            s,
         ),
     ]
     .concat()
@@ -263,31 +287,22 @@ pub fn times() -> Vec<Timed> {
 fn section<T: Theirs>(
     name: &'static str,
     rows: usize,
-    ours: Option<Loop>,
+    bound: f64,
+    ours: Loop,
     over: Fills,
     scene: &Scene,
-) -> Vec<Timed> {
-    let value = match ours {
-        Some(ours) => (
-            name,
-            "by value",
-            Some(by_value::<T>(rows, ours, &scene.key)),
-        ),
-        None => (name, "by value: ours is filled once, after the loop", None),
-    };
-    vec![
-        value,
-        (
-            name,
-            "over an image",
-            Some(over_image::<T>(rows, over, scene)),
-        ),
+) -> [Timed; 2] {
+    let value = by_value::<T>(rows, ours, &scene.key);
+    let image = over_image::<T>(rows, over, scene);
+    [
+        (name, "by value", Some(bound), value),
+        (name, "over an image", None, image),
     ]
 }
 
 fn by_value<T: Theirs>(rows: usize, ours: Loop, key: &FfVsKey) -> Times {
-    let mut a = vec![0f32; 4 * rows];
-    let mut b = vec![MaybeUninit::new([0f32; 4]); rows];
+    let mut a = vec![0f32; PLACES * 4 * rows];
+    let mut b = vec![MaybeUninit::new([0f32; 4]); PLACES * rows];
     let mut ours = |n: u32, x: f32| {
         // SAFETY: the pointer goes with the slice's length.
         let packed = unsafe { ours(n, x, a.as_mut_ptr(), a.len()) };
