@@ -15,9 +15,9 @@ const SET: [u8; 4] = [1, 2, 128, 255];
 #[must_use]
 pub fn states() -> Vec<Vec<Call>> {
     vec![
-        vec![enable(0, 1), enable(5, 1), enable(70, 1)],
-        directions(),
         kinds_of_lights(),
+        directions(),
+        vec![enable(0, 1), enable(5, 1), enable(70, 1)],
     ]
 }
 
@@ -100,17 +100,14 @@ pub fn packs(active: u8) -> Vec<Pack> {
             .chain(counts(Name::FillPalette))
             .chain(counts(Name::PaletteRows));
         packs.extend(wide.map(|(name, mask, count)| Pack::right(name, key(mask, count))));
-        for &name in NAMES {
-            let pack = Pack::right(name, key(active, at));
+        for (&name, mask) in NAMES.iter().flat_map(|name| [(name, active), (name, 0)]) {
+            let pack = Pack::right(name, key(mask, at));
             if matches!(name.gives(), Gives::Fill(_)) {
-                packs.extend(
-                    wrong_lengths(pack.right_length())
-                        .into_iter()
-                        .map(|length| Pack {
-                            length: Length::Bytes(length),
-                            ..pack.clone()
-                        }),
-                );
+                let wrong = wrong_lengths(pack.right_length()).into_iter();
+                packs.extend(wrong.map(|length| Pack {
+                    length: Length::Bytes(length),
+                    ..pack.clone()
+                }));
             }
             packs.extend((0..=255).step_by(51).map(|fog| Pack {
                 key: Key {
@@ -119,7 +116,6 @@ pub fn packs(active: u8) -> Vec<Pack> {
                 },
                 ..pack.clone()
             }));
-            packs.push(pack);
         }
     }
     packs
