@@ -5,6 +5,7 @@ mod inputs;
 mod measure;
 mod ours;
 mod packing;
+mod scene;
 mod theirs;
 
 use std::hint::black_box;
