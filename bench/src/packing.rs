@@ -88,18 +88,17 @@ theirs! {
     Palette, set_view, FfState::fill_palette_section;
 }
 
-/// The Rust's loop: what ours does, into as many places in turn, with the state and the rows through `black_box` at
-/// each turn.
+/// The Rust's loop: what ours does, into as many places in turn. As in ours the state is a local that the compiler sees.
+/// Its fields are private, so that an input is changed by a call, where ours stores it.
 #[inline(never)]
 fn theirs<T: Theirs>(n: u32, x: f32, key: &FfVsKey, dst: Rows) {
     let rows = dst.len() / PLACES;
     let mut s = eight_spots(x);
     let mut v = x;
     for i in 0..n as usize {
-        let s = black_box(&mut s);
-        T::change(s, v);
+        T::change(&mut s, v);
         let at = i % PLACES * rows;
-        T::fill(s, key, black_box(&mut dst[at..at + rows]));
+        T::fill(&s, key, &mut dst[at..at + rows]);
         v += 1.0;
     }
 }
@@ -208,7 +207,7 @@ fn by_value<T: Theirs>(rows: usize, ours: Loop, key: &FfVsKey) -> Times {
     let times = alternating(
         TURNS as usize,
         || ours(black_box(TURNS), black_box(1.0)),
-        || theirs::<T>(black_box(TURNS), black_box(1.0), key, &mut b),
+        || theirs::<T>(black_box(TURNS), black_box(1.0), key, black_box(&mut b)),
     );
     assert!(a == floats(&b), "the rows differ");
     times

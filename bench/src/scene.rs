@@ -22,13 +22,13 @@ mod raw {
     }
 }
 
-/// Sixteen numbers, as in crates/bench_packing.
+/// Sixteen numbers, as in crates/bench_packing. Made entry by entry: rows that are first made and then copied cost the
+/// Rust's loops more than a fill of PROJ does.
 pub fn spread(x: f32) -> D3DMATRIX {
-    let row = |x: f32| [x, x + 1.0, x + 2.0, x + 3.0];
-    let rows = [row(x), row(x * 2.0), row(x * 3.0), row(x * 5.0)];
-    let mut m = D3DMATRIX::IDENTITY;
-    m.m.copy_from_slice(rows.as_flattened());
-    m
+    let rows = [x, x * 2.0, x * 3.0, x * 5.0];
+    D3DMATRIX {
+        m: core::array::from_fn(|i| rows[i / 4] + [0.0, 1.0, 2.0, 3.0][i % 4]),
+    }
 }
 
 fn spot() -> D3DLIGHT9 {
