@@ -4,6 +4,7 @@ ghost use Prim.Native.Nat.{_≤_};
 ghost use lib.ListN.{length};
 ghost use Rattle.replay_lines.specs.Lines.{Within};
 use crate::ops::Answer;
+use ff_state::Section;
 
 // A call's code, and the number that it was lent.
 struct Reply {
@@ -39,6 +40,11 @@ fn put_item(words: &[u32; 32], item: &mut [u8])
     }
 }
 
+// The lights' section under a lit key.
+fn fill_lights(image: &[u8], mask: u8, lent: &mut [u8]) -> u32 {
+    pack_calls::fill_section(Section::Lights, image, 0, 1, 0, 0, mask, 0, 0, lent)
+}
+
 // A call that is lent a slice of the item.
 fn item_call(letter: u8, a: u32, image: &mut [u8], lent: &mut [u8]) -> Reply {
     let code = match letter {
@@ -49,6 +55,7 @@ fn item_call(letter: u8, a: u32, image: &mut [u8], lent: &mut [u8]) -> Reply {
         b'A' => calls::set_material(image, lent),
         b'B' => calls::material(image, lent),
         b'L' => calls::set_light_at(image, a, lent),
+        b'U' => fill_lights(image, (a % 256) as u8, lent),
         _ => calls::get_light_at(image, a, lent),
     };
     Reply { code, number: 0 }
@@ -139,7 +146,7 @@ pub fn image_call(
             let r = damage(image, wide(a), (b % 256) as u8);
             told(r, image, item, out)
         }
-        b'S' | b'M' | b'T' | b'W' | b'A' | b'B' | b'L' | b'G' => {
+        b'S' | b'M' | b'T' | b'W' | b'A' | b'B' | b'L' | b'U' | b'G' => {
             if item.len() < to {
                 return Answer::Bad;
             }

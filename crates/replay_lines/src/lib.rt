@@ -30,6 +30,7 @@
 //     C - -         calls::compacted_light_masks
 //     K BITS -      calls::mark_ff_vs_dirty
 //     Q - -         calls::take_ff_vs_dirty
+//     U MASK LEN    pack_calls::fill_section of the lights, lit, under the light mask MASK
 //
 // The line written has the words of the answer, `refused` and a number of document 01, or `bad line`
 // for one that is not of this form. The words of an accepted call on an image are the number that it

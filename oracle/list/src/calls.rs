@@ -5,13 +5,17 @@ use std::fmt::Write;
 use cases::call::{Call, Gives, LIGHT, NAMES, Name};
 use cases::image::{self, BYTES, ROOM};
 use cases::lists;
-use cases::model::Output;
+use cases::model::{Model, Output};
+use cases::packed::Packed;
+use cases::packing::{self, Key, Length, Pack};
 use cases::world::World;
 
 use crate::{SEED, Sample};
 
 /// The bytes of the running item, and so the longest slice of a line.
 const ITEM: usize = 128;
+/// The letter of a fill of the lights' section.
+const FILL_LIGHTS: char = 'U';
 /// Random lists of the sample.
 const LISTS: u64 = 10;
 
@@ -125,6 +129,28 @@ impl Calls<'_> {
         self.call_on(call, BYTES)
     }
 
+    /// The lights' section of the image, lit, into so many bytes of the item.
+    fn fill_lights(&mut self, mask: u8, length: usize) {
+        let key = Key {
+            lighting_enabled: 1,
+            light_active_mask: mask,
+            ..Key::default()
+        };
+        let pack = Pack {
+            length: Length::Bytes(length),
+            ..Pack::right(packing::Name::FillLights, key)
+        };
+        let arguments = [u32::from(mask), length as u32];
+        match Packed::new(Model::fresh()).judge(&pack, Some(&self.image)) {
+            Err(refusal) => self.sample.add(FILL_LIGHTS, &arguments, Err(refusal)),
+            Ok(Output::Bytes(bytes)) => {
+                self.item[..bytes.len()].copy_from_slice(&bytes);
+                self.line(FILL_LIGHTS, &arguments, 0);
+            }
+            Ok(_) => unreachable!("a fill gives bytes"),
+        }
+    }
+
     /// A call of a random list, where a line has the room for what it is given.
     fn random(&mut self, call: &Call) {
         if call.given.len() > ITEM || call.lent > ITEM {
@@ -222,6 +248,22 @@ fn damaged(calls: &mut Calls) {
     }
 }
 
+/// Fills of one light's rows, each of their refusals among them: no image, a wrong length, another mask.
+fn fills(calls: &mut Calls) {
+    let kept = calls.image[image::ZERO];
+    calls.put_byte(image::ZERO, 1);
+    calls.fill_lights(1, 96);
+    calls.put_byte(image::ZERO, kept);
+    calls.call(&Call::plain(Name::ImageFresh));
+    for call in [light(3, 2), enable(3, 1), enable(100, 1)] {
+        for (mask, length) in [(0, 0), (0, 96), (1, 96), (1, 95), (1, 97), (1, 0), (2, 96)] {
+            calls.fill_lights(mask, length);
+        }
+        calls.call(&call);
+    }
+    calls.fill_lights(1, 96);
+}
+
 pub fn calls(sample: &mut Sample) {
     let mut calls = Calls {
         sample,
@@ -242,6 +284,7 @@ pub fn calls(sample: &mut Sample) {
     for call in cases() {
         calls.call(&call);
     }
+    fills(&mut calls);
     for number in 0..LISTS {
         calls.call(&Call::plain(Name::ImageFresh));
         for call in lists::list(SEED, number) {
@@ -253,19 +296,24 @@ pub fn calls(sample: &mut Sample) {
 /// The calls that the sample does not answer with 0 or with one of their refusals.
 pub fn unmet(sample: &Sample) -> String {
     let mut missing = String::new();
-    let met = |name: Name, wanted: &dyn Fn(&str) -> bool| {
-        let lines = sample.questions.lines().zip(sample.answers.lines());
-        lines
-            .filter(|(question, _)| question.starts_with(letter(name)))
-            .any(|(_, answer)| wanted(answer))
-    };
-    for &name in NAMES {
-        if !met(name, &|answer| !answer.starts_with("refused")) {
-            let _ = write!(missing, " {} 0", name.form().c_name);
+    let fill = packing::Name::FillLights;
+    let named = NAMES
+        .iter()
+        .map(|&name| (letter(name), name.form().c_name, name.form().refusals))
+        .chain([(FILL_LIGHTS, fill.c_name(), fill.refusals())]);
+    for (letter, c_name, refusals) in named {
+        let met = |wanted: &dyn Fn(&str) -> bool| {
+            let lines = sample.questions.lines().zip(sample.answers.lines());
+            lines
+                .filter(|(question, _)| question.starts_with(letter))
+                .any(|(_, answer)| wanted(answer))
+        };
+        if !met(&|answer| !answer.starts_with("refused")) {
+            let _ = write!(missing, " {c_name} 0");
         }
-        for &refusal in name.form().refusals {
-            if !met(name, &|answer| answer == format!("refused {refusal}")) {
-                let _ = write!(missing, " {} {refusal}", name.form().c_name);
+        for refusal in refusals {
+            if !met(&|answer| answer == format!("refused {refusal}")) {
+                let _ = write!(missing, " {c_name} {refusal}");
             }
         }
     }
