@@ -36,6 +36,7 @@ enum {
     FF_WRONG_MASK = 5,      /* the key's light mask is not 0 and not that of the lights that light */
     FF_SINGULAR = 6,        /* the determinant equals 0 or is not finite */
     FF_UNKNOWN_BITS = 7,    /* dirty bits above FF_DIRTY_ALL */
+    FF_HAS_RHW = 8,         /* the key is of transformed vertices, which read no section */
     FF_NO_IMAGE = 9         /* the bytes are no state image */
 };
 
@@ -46,7 +47,8 @@ enum {
     FF_MATERIAL_BYTES = 68, /* 17 floats: diffuse, ambient, specular, emissive (rgba each), power */
     FF_LIGHT_BYTES = 104,   /* the type, then 25 floats: diffuse, specular, ambient (rgba each), position, direction
                                (xyz each), range, falloff, attenuation 0 to 2, theta, phi */
-    FF_ROW_BYTES = 16       /* 4 floats: a row of the shader's constants */
+    FF_ROW_BYTES = 16,      /* 4 floats: a row of the shader's constants */
+    FF_MIRROR_BYTES = 17840 /* FF_ROWS rows */
 };
 
 /* Transform states, by Direct3D's names without D3D. */
@@ -103,6 +105,8 @@ static inline const char *ff_refusal_words(uint32_t answer) {
         return "the matrix has no inverse";
     case FF_UNKNOWN_BITS:
         return "dirty bits above the six";
+    case FF_HAS_RHW:
+        return "the key is of transformed vertices";
     case FF_NO_IMAGE:
         return "the bytes are no state image";
     default:
@@ -227,6 +231,19 @@ uint32_t ff_fill_tt_section(const uint8_t *image, size_t image_len, FF_KEY, uint
  * least; diffuse rgb and specular alpha; ambient rgb and the spot's offset; attenuation 0 to 2 and range; specular rgb and
  * the spot's scale. light_active_mask is 0, for no rows, or the first byte of ff_compacted_light_masks. Refuses 9, 4, 5. */
 uint32_t ff_fill_lights_section(const uint8_t *image, size_t image_len, FF_KEY, uint8_t *dst, size_t dst_len);
+
+/* Refresh: a mirror of the shader's constants, kept up with the state */
+
+/* Takes the dirty bits and clears them, writes the rows of each section that they name to the mirror, from the section's
+ * first row on, and answers with the bits. TT writes nothing. Every other row keeps its bytes, whatever they are. The mask
+ * is looked at whether LIGHTS is dirty or not. Refuses 9, 4, 8, 5, and leaves the bits dirty where it refuses.
+ *
+ * Right after an accepted refresh the mirror holds what all the fills above write under this key, each from its section's
+ * first row on, whatever it held at first. For this it is one mirror all along, its bits are taken by refreshes alone, and
+ * every section is marked (ff_mark_ff_vs_dirty) before a refresh whose key differs in more than fog_mode from the last
+ * accepted one's, or whose image is not the one that the last call left. A section with rows overwritten from outside is
+ * right again from the first accepted refresh after it is marked. */
+uint32_t ff_refresh(uint8_t *image, size_t image_len, FF_KEY, uint8_t *mirror, size_t mirror_len, uint32_t *out);
 
 /* Arithmetic, without an image */
 

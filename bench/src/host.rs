@@ -4,12 +4,13 @@
 use std::hint::black_box;
 
 use crate::measure::{alone, alternating};
-use crate::ours;
+use crate::{ours, raw};
 
 const IMAGE: usize = 24_204;
 const MATRIX: usize = 64;
 const MATERIAL: usize = 68;
 const LIGHT: usize = 104;
+const MIRROR: usize = 17_840;
 
 /// The most that a call that only reads may take, in copies.
 const READING: f64 = 15.0;
@@ -23,22 +24,6 @@ const READS: u32 = 16_384;
 const WORLD: u32 = 256;
 const SLOT: u32 = 3;
 const OVERFLOW: u32 = 9;
-
-mod raw {
-    unsafe extern "C" {
-        pub fn ff_image_fresh(image: *mut u8, n: usize) -> u32;
-        pub fn ff_image_check(image: *const u8, n: usize) -> u32;
-        pub fn ff_set_transform(i: *mut u8, n: usize, state: u32, m: *const u8, len: usize) -> u32;
-        pub fn ff_transform(i: *const u8, n: usize, state: u32, out: *mut u8, len: usize) -> u32;
-        pub fn ff_set_material(i: *mut u8, n: usize, m: *const u8, len: usize) -> u32;
-        pub fn ff_set_light_at(i: *mut u8, n: usize, index: u32, l: *const u8, len: usize) -> u32;
-        pub fn ff_set_light_enabled_at(i: *mut u8, n: usize, index: u32, enabled: u32) -> u32;
-        pub fn ff_is_light_enabled_at(i: *const u8, n: usize, index: u32, out: *mut u32) -> u32;
-        pub fn ff_vs_source_light_inputs(i: *const u8, n: usize, out: *mut u32) -> u32;
-        pub fn ff_mark_ff_vs_dirty(i: *mut u8, n: usize, bits: u32) -> u32;
-        pub fn ff_take_ff_vs_dirty(i: *mut u8, n: usize, out: *mut u32) -> u32;
-    }
-}
 
 /// A fresh image with the first `lights` lights from index 8 on, and `SLOT`.
 fn image(lights: u32) -> Box<[u8; IMAGE]> {
@@ -70,6 +55,8 @@ fn calls(lights: u32) {
     let (m, l) = (matrix.as_ptr(), light.as_ptr());
     let mut out = [0u8; MATRIX];
     let o = out.as_mut_ptr();
+    let mut rows = [0u8; MIRROR];
+    let mirror = rows.as_mut_ptr();
     let mut number = 0u32;
     let n: *mut u32 = &mut number;
     let overflow = if lights == 0 { SLOT } else { OVERFLOW };
@@ -117,6 +104,10 @@ fn calls(lights: u32) {
         });
         row("ff_take_ff_vs_dirty", lights, None, None, || {
             raw::ff_take_ff_vs_dirty(i, IMAGE, n)
+        });
+        // Nothing is dirty, as the bits were just taken.
+        row("ff_refresh", lights, None, None, || {
+            raw::ff_refresh(i, IMAGE, 0, 0, 0, 0, 0, 0, 0, mirror, MIRROR, n)
         });
         row("ff_image_fresh", lights, None, None, || {
             raw::ff_image_fresh(i, IMAGE)

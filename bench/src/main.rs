@@ -5,13 +5,19 @@ mod inputs;
 mod measure;
 mod ours;
 mod packing;
+mod refresh;
 mod scene;
 mod theirs;
+
+/// The library's calls, as the Rust crate declares them; some of them are timed.
+#[allow(dead_code)]
+#[path = "../../bindings/rust/src/raw.rs"]
+mod raw;
 
 use std::hint::black_box;
 
 use inputs::Random;
-use measure::{Times, alone, alternating};
+use measure::{Times, alone, alternating, loops};
 use mtld3d_types::D3DMATRIX;
 
 /// Few enough that input and output stay in the first cache.
@@ -38,6 +44,7 @@ fn main() {
         Some("packing") => {
             head();
             fills();
+            refreshes();
         }
         _ => {
             beside_the_rust();
@@ -118,12 +125,19 @@ fn on_state() {
         row("vs_source_light_inputs", shape, &times, None);
     }
     fills();
+    refreshes();
     copies();
 }
 
 fn fills() {
     for (name, shape, bound, times) in packing::times() {
         row(name, shape, &times, bound);
+    }
+}
+
+fn refreshes() {
+    for (shape, times) in refresh::times() {
+        row("refresh", shape, &times, None);
     }
 }
 
@@ -145,19 +159,15 @@ fn copies() {
 
 fn on_calls<T: PartialEq>(turns: u32, ours: impl Fn(u32) -> T, theirs: impl Fn(u32) -> T) -> Times {
     assert!(ours(turns) == theirs(turns), "the answers differ");
-    let loops = alternating(
-        1,
-        || {
-            black_box(ours(black_box(turns)));
+    loops(
+        [turns, PLAIN],
+        |n| {
+            black_box(ours(n));
         },
-        || {
-            black_box(theirs(black_box(PLAIN)));
+        |n| {
+            black_box(theirs(n));
         },
-    );
-    Times {
-        ours: loops.ours / f64::from(turns),
-        theirs: loops.theirs / f64::from(PLAIN),
-    }
+    )
 }
 
 fn on_floats(xs: &[f32], ours: fn(&[f32], &mut [f32]), theirs: fn(&[f32], &mut [f32])) -> Times {

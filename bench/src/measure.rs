@@ -1,5 +1,6 @@
 //! Times two loops in turn, so that what else the machine does falls on both alike.
 
+use std::hint::black_box;
 use std::time::Instant;
 
 /// Samples of each loop, and the least time of one, in nanoseconds.
@@ -23,6 +24,23 @@ pub fn alternating(calls: usize, mut ours: impl FnMut(), mut theirs: impl FnMut(
     }
     let [ours, theirs] = samples.map(|s| median(s) / calls as f64);
     Times { ours, theirs }
+}
+
+/// The same of two loops of so many turns each.
+pub fn loops(
+    [our_turns, their_turns]: [u32; 2],
+    mut ours: impl FnMut(u32),
+    mut theirs: impl FnMut(u32),
+) -> Times {
+    let runs = alternating(
+        1,
+        || ours(black_box(our_turns)),
+        || theirs(black_box(their_turns)),
+    );
+    Times {
+        ours: runs.ours / f64::from(our_turns),
+        theirs: runs.theirs / f64::from(their_turns),
+    }
 }
 
 /// The median, in nanoseconds, of one run.

@@ -2,12 +2,12 @@
 
 use mtld3d_types::D3DMATRIX;
 
-pub use raw::bench_set_light_at as set_light_at;
-pub use raw::bench_set_light_enabled_at as set_light_enabled_at;
-pub use raw::bench_set_transform as set_transform;
-pub use raw::bench_vs_source_light_inputs as vs_source_light_inputs;
+pub use loops::bench_set_light_at as set_light_at;
+pub use loops::bench_set_light_enabled_at as set_light_enabled_at;
+pub use loops::bench_set_transform as set_transform;
+pub use loops::bench_vs_source_light_inputs as vs_source_light_inputs;
 
-mod raw {
+mod loops {
     unsafe extern "C" {
         pub fn bench_sqrt(xs: *const f32, xs_len: usize, out: *mut f32, out_len: usize);
         pub fn bench_sqrt_chain(xs: *const f32, xs_len: usize) -> f32;
@@ -27,32 +27,32 @@ mod raw {
 
 pub fn sqrt(xs: &[f32], out: &mut [f32]) {
     // SAFETY: each pointer goes with its slice's length, and the slices do not overlap.
-    unsafe { raw::bench_sqrt(xs.as_ptr(), xs.len(), out.as_mut_ptr(), out.len()) }
+    unsafe { loops::bench_sqrt(xs.as_ptr(), xs.len(), out.as_mut_ptr(), out.len()) }
 }
 
 pub fn sqrt_chain(xs: &[f32]) -> f32 {
     // SAFETY: the pointer goes with the slice's length.
-    unsafe { raw::bench_sqrt_chain(xs.as_ptr(), xs.len()) }
+    unsafe { loops::bench_sqrt_chain(xs.as_ptr(), xs.len()) }
 }
 
 pub fn mat_mul(ms: &[D3DMATRIX], out: &mut [D3DMATRIX]) {
-    on_floats(raw::bench_mat_mul, ms, out);
+    on_floats(loops::bench_mat_mul, ms, out);
 }
 
 pub fn mat_mul_by_one(ms: &[D3DMATRIX], out: &mut [D3DMATRIX]) {
-    on_floats(raw::bench_mat_mul_by_one, ms, out);
+    on_floats(loops::bench_mat_mul_by_one, ms, out);
 }
 
 pub fn mat_mul_chain(ms: &[D3DMATRIX], out: &mut [D3DMATRIX]) {
-    on_floats(raw::bench_mat_mul_chain, ms, out);
+    on_floats(loops::bench_mat_mul_chain, ms, out);
 }
 
 pub fn transpose(ms: &[D3DMATRIX], out: &mut [D3DMATRIX]) {
-    on_floats(raw::bench_transpose, ms, out);
+    on_floats(loops::bench_transpose, ms, out);
 }
 
 pub fn inverse(ms: &[D3DMATRIX], out: &mut [D3DMATRIX]) {
-    on_floats(raw::bench_inverse, ms, out);
+    on_floats(loops::bench_inverse, ms, out);
 }
 
 type Loop = unsafe extern "C" fn(*const f32, usize, *mut f32, usize);

@@ -9,6 +9,7 @@ use original::dxso::FfVsKey;
 use original::ff_state::FfState;
 
 use crate::measure::{Times, alternating};
+use crate::raw;
 use crate::scene::{IMAGE, KEY, eight_spots, image, key, spread};
 
 const ROW: usize = 16;
@@ -24,20 +25,13 @@ type Loop = unsafe extern "C" fn(u32, f32, *mut f32, usize) -> u32;
 type Fills =
     unsafe extern "C" fn(*const u8, usize, u8, u8, u8, u8, u8, u8, u8, *mut u8, usize) -> u32;
 
-mod raw {
-    #[rustfmt::skip]
+mod loops {
     unsafe extern "C" {
         pub fn bench_fill_wv(n: u32, x: f32, dst: *mut f32, len: usize) -> u32;
         pub fn bench_fill_proj(n: u32, x: f32, dst: *mut f32, len: usize) -> u32;
         pub fn bench_fill_material(n: u32, x: f32, dst: *mut f32, len: usize) -> u32;
         pub fn bench_fill_palette(n: u32, x: f32, dst: *mut f32, len: usize) -> u32;
         pub fn bench_fill_lights(n: u32, x: f32, dst: *mut f32, len: usize) -> u32;
-
-        pub fn ff_fill_wv_section(i: *const u8, n: usize, rhw: u8, lit: u8, specular: u8, indexed: u8, mask: u8, fog: u8, count: u8, dst: *mut u8, len: usize) -> u32;
-        pub fn ff_fill_proj_section(i: *const u8, n: usize, rhw: u8, lit: u8, specular: u8, indexed: u8, mask: u8, fog: u8, count: u8, dst: *mut u8, len: usize) -> u32;
-        pub fn ff_fill_material_section(i: *const u8, n: usize, rhw: u8, lit: u8, specular: u8, indexed: u8, mask: u8, fog: u8, count: u8, dst: *mut u8, len: usize) -> u32;
-        pub fn ff_fill_palette_section(i: *const u8, n: usize, rhw: u8, lit: u8, specular: u8, indexed: u8, mask: u8, fog: u8, count: u8, dst: *mut u8, len: usize) -> u32;
-        pub fn ff_fill_lights_section(i: *const u8, n: usize, rhw: u8, lit: u8, specular: u8, indexed: u8, mask: u8, fog: u8, count: u8, dst: *mut u8, len: usize) -> u32;
     }
 }
 
@@ -140,7 +134,7 @@ pub fn times() -> Vec<Timed> {
             "fill_wv_section",
             4,
             FEW_ROWS,
-            raw::bench_fill_wv,
+            loops::bench_fill_wv,
             raw::ff_fill_wv_section,
             s,
         ),
@@ -148,7 +142,7 @@ pub fn times() -> Vec<Timed> {
             "fill_proj_section",
             4,
             FEW_ROWS,
-            raw::bench_fill_proj,
+            loops::bench_fill_proj,
             raw::ff_fill_proj_section,
             s,
         ),
@@ -156,7 +150,7 @@ pub fn times() -> Vec<Timed> {
             "fill_material_section",
             5,
             FEW_ROWS,
-            raw::bench_fill_material,
+            loops::bench_fill_material,
             raw::ff_fill_material_section,
             s,
         ),
@@ -164,7 +158,7 @@ pub fn times() -> Vec<Timed> {
             "fill_lights_section",
             48,
             LIGHTS,
-            raw::bench_fill_lights,
+            loops::bench_fill_lights,
             raw::ff_fill_lights_section,
             s,
         ),
@@ -172,7 +166,7 @@ pub fn times() -> Vec<Timed> {
             "fill_palette_section",
             160,
             PALETTE,
-            raw::bench_fill_palette,
+            loops::bench_fill_palette,
             raw::ff_fill_palette_section,
             s,
         ),

@@ -7,22 +7,15 @@ use original::convert::{FfVsLayout, FfVsLayoutFlags};
 use original::dxso::{FfVsFlags, FfVsKey, MAX_LINKED_INPUTS};
 use original::ff_state::FfState;
 
+use crate::raw;
+
 pub const IMAGE: usize = 24_204;
 const LIGHT: usize = 104;
 
 /// The numbers of `key` as they cross.
 pub const KEY: [u8; 7] = [0, 1, 1, 1, 0xFF, 0, 1];
 
-mod raw {
-    unsafe extern "C" {
-        pub fn ff_image_fresh(i: *mut u8, n: usize) -> u32;
-        pub fn ff_set_transform(i: *mut u8, n: usize, state: u32, m: *const u8, len: usize) -> u32;
-        pub fn ff_set_light_at(i: *mut u8, n: usize, index: u32, l: *const u8, len: usize) -> u32;
-        pub fn ff_set_light_enabled_at(i: *mut u8, n: usize, index: u32, enabled: u32) -> u32;
-    }
-}
-
-/// Sixteen numbers, as in crates/bench_packing. Made entry by entry: rows that are first made and then copied cost the
+/// Sixteen numbers, as in crates/bench_inputs. Made entry by entry: rows that are first made and then copied cost the
 /// Rust's loops more than a fill of PROJ does.
 pub fn spread(x: f32) -> D3DMATRIX {
     let rows = [x, x * 2.0, x * 3.0, x * 5.0];

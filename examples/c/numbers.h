@@ -3,6 +3,7 @@
 #define NUMBERS_H
 
 #include <stdio.h>
+#include <stdlib.h>
 #include <string.h>
 
 #include "ff_state.h"
@@ -55,6 +56,14 @@ static inline void show_answer(const char *title, uint32_t answer) {
         printf("%s: accepted\n", title);
     else
         printf("%s: refused %u: %s\n", title, (unsigned)answer, ff_refusal_words(answer));
+}
+
+/* For a call that must be accepted. */
+static inline void accept(uint32_t answer) {
+    if (answer != FF_ACCEPTED) {
+        show_answer("stopped", answer);
+        exit(1);
+    }
 }
 
 #endif

@@ -1,18 +1,9 @@
 /* The rows that a draw hands to its shader: a small scene packed section by section into one buffer of rows, laid out
  * as the shader reads it. */
-#include <stdlib.h>
-
-#include "numbers.h"
+#include "rows.h"
 
 static uint8_t image[FF_IMAGE_BYTES];
-static uint8_t rows[FF_ROWS * FF_ROW_BYTES];
-
-static void accept(uint32_t answer) {
-    if (answer != FF_ACCEPTED) {
-        show_answer("stopped", answer);
-        exit(1);
-    }
-}
+static struct packing packed;
 
 static void show_row_count(const char *title, struct ff_vs_key key) {
     uint32_t count;
@@ -42,11 +33,6 @@ static void row_counts(void) {
     show_row_count("transformed", transformed);
 }
 
-static void show_row(const char *title, int row) {
-    const uint8_t *bytes = rows + row * FF_ROW_BYTES;
-    printf("%s: %g %g %g %g\n", title, get(bytes, 0), get(bytes, 1), get(bytes, 2), get(bytes, 3));
-}
-
 static void scene(void) {
     const float moved[16] = {1, 0, 0, 0, 0, 1, 0, 0, 0, 0, 1, 0, 5, 6, 7, 1};
     uint8_t matrix[FF_MATRIX_BYTES], material[FF_MATERIAL_BYTES] = {0}, light[FF_LIGHT_BYTES] = {0};
@@ -67,27 +53,9 @@ static void scene(void) {
     accept(ff_set_light_enabled_at(image, sizeof image, 70, 1));
 }
 
-/* The bytes of so many rows of the buffer, from a section's first on. */
-#define SECTION(first, count) rows + (first) * FF_ROW_BYTES, (size_t)(count) * FF_ROW_BYTES
-
-static void pack(struct ff_vs_key key) {
-    uint32_t n;
-    accept(ff_wv_section_rows(image, sizeof image, FF_KEY_OF(key), &n));
-    accept(ff_fill_wv_section(image, sizeof image, FF_KEY_OF(key), SECTION(FF_ROW_WV, n)));
-    accept(ff_proj_section_rows(image, sizeof image, FF_KEY_OF(key), &n));
-    accept(ff_fill_proj_section(image, sizeof image, FF_KEY_OF(key), SECTION(FF_ROW_PROJ, n)));
-    accept(ff_material_section_rows(image, sizeof image, FF_KEY_OF(key), &n));
-    accept(ff_fill_material_section(image, sizeof image, FF_KEY_OF(key), SECTION(FF_ROW_MATERIAL, n)));
-    accept(ff_lights_section_rows(image, sizeof image, FF_KEY_OF(key), &n));
-    accept(ff_fill_lights_section(image, sizeof image, FF_KEY_OF(key), SECTION(FF_ROW_LIGHTS, n)));
-    accept(ff_palette_section_rows(image, sizeof image, FF_KEY_OF(key), &n));
-    accept(ff_fill_palette_section(image, sizeof image, FF_KEY_OF(key), SECTION(FF_ROW_PALETTE, n)));
-    accept(ff_tt_section_rows(image, sizeof image, FF_KEY_OF(key), &n));
-    accept(ff_fill_tt_section(image, sizeof image, FF_KEY_OF(key), SECTION(0, n))); /* n is 0 */
-}
-
 int main(void) {
     struct ff_vs_key key = {0};
+    uint8_t *const rows = packed.rows;
     uint32_t masks;
 
     accept(ff_image_fresh(image, sizeof image));
@@ -98,19 +66,20 @@ int main(void) {
     key.lighting_enabled = key.specular_enable = 1;
     key.light_active_mask = (uint8_t)masks;
     key.vertex_blend_count = 2;
-    pack(key);
-    show_row("world x view, row 0", FF_ROW_WV);
-    show_row("projection, row 0", FF_ROW_PROJ);
-    show_row("diffuse", FF_ROW_MATERIAL);
-    show_row("power", FF_ROW_MATERIAL + 4);
-    show_row("the first light's direction and falloff", FF_ROW_LIGHTS + 1);
-    show_row("the second light's position and kind", FF_ROW_LIGHTS + 6);
+    pack(image, key, &packed);
+    show_row("world x view, row 0", rows, FF_ROW_WV);
+    show_row("projection, row 0", rows, FF_ROW_PROJ);
+    show_row("diffuse", rows, FF_ROW_MATERIAL);
+    show_row("power", rows, FF_ROW_MATERIAL + 4);
+    show_row("the first light's direction and falloff", rows, FF_ROW_LIGHTS + 1);
+    show_row("the second light's position and kind", rows, FF_ROW_LIGHTS + 6);
     printf("its spot's scale %.7g and offset %.7g\n", get(rows + (FF_ROW_LIGHTS + 11) * FF_ROW_BYTES, 3),
            get(rows + (FF_ROW_LIGHTS + 9) * FF_ROW_BYTES, 3));
-    show_row("the second world matrix, row 0", FF_ROW_PALETTE + 4);
+    show_row("the second world matrix, row 0", rows, FF_ROW_PALETTE + 4);
 
-    show_answer("five rows for WV", ff_fill_wv_section(image, sizeof image, FF_KEY_OF(key), SECTION(FF_ROW_WV, 5)));
+    show_answer("five rows for WV", ff_fill_wv_section(image, sizeof image, FF_KEY_OF(key), SECTION(rows, FF_ROW_WV, 5)));
     key.light_active_mask = 2;
-    show_answer("light mask 2", ff_fill_lights_section(image, sizeof image, FF_KEY_OF(key), SECTION(FF_ROW_LIGHTS, 12)));
+    show_answer("light mask 2",
+                ff_fill_lights_section(image, sizeof image, FF_KEY_OF(key), SECTION(rows, FF_ROW_LIGHTS, 12)));
     return 0;
 }

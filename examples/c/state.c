@@ -1,17 +1,8 @@
 /* The state of a small scene, held as an image: matrices, a material, lights of three kinds, and the sections
  * that a draw has to hand to its shader anew. Every call that must be accepted goes through accept. */
-#include <stdlib.h>
-
 #include "numbers.h"
 
 static uint8_t image[FF_IMAGE_BYTES];
-
-static void accept(uint32_t answer) {
-    if (answer != FF_ACCEPTED) {
-        show_answer("stopped", answer);
-        exit(1);
-    }
-}
 
 static void set_transform(uint32_t state, const float m[16]) {
     uint8_t matrix[FF_MATRIX_BYTES];

@@ -1,20 +1,32 @@
-//! The state of a small scene: every call once, a refusal in words and a readback.
+//! The state of a small scene: every call once, a refusal in words, a readback, and a mirror kept up over some frames.
 
 use std::error::Error;
 
 use ff_state::{
-    ALL_DIRTY, Color, D3DLIGHT_SPOT, D3DTS_VIEW, D3DTS_WORLD, FfImage, Light, Material, Matrix,
-    VsKey,
+    ALL_DIRTY, Color, D3DLIGHT_SPOT, D3DTS_VIEW, D3DTS_WORLD, DIRTY_LIGHTS, FfImage, Light,
+    Material, Matrix, Mirror, ROW_LIGHTS, ROW_MATERIAL, ROW_PALETTE, ROW_PROJ, ROW_WV, Refusal,
+    Row, VsKey,
 };
 
-/// Packs each section, and prints its rows.
-fn pack(state: &FfImage) -> Result<(), Box<dyn Error>> {
-    let key = VsKey {
+fn moved(x: f32, y: f32, z: f32) -> Matrix {
+    let mut m = Matrix::IDENTITY;
+    m.m[3] = [x, y, z, 1.0];
+    m
+}
+
+/// Lit by the state's lights, two matrices blended.
+fn key(state: &FfImage) -> VsKey {
+    VsKey {
         lighting_enabled: true,
         light_active_mask: state.compacted_light_masks().active,
         vertex_blend_count: 2,
         ..VsKey::default()
-    };
+    }
+}
+
+/// Packs each section, and prints its rows.
+fn pack(state: &FfImage) -> Result<(), Box<dyn Error>> {
+    let key = key(state);
     println!("rows of the draw: {}", state.vs_row_count(&key));
     let counts = [
         state.wv_section_rows(&key),
@@ -45,20 +57,95 @@ fn pack(state: &FfImage) -> Result<(), Box<dyn Error>> {
     Ok(())
 }
 
+/// Whether some float is not alike to its fellow: their bits differ, and one of them is no NaN.
+fn differ(a: &Row, b: &Row) -> bool {
+    let alike = |a: &f32, b: &f32| a.to_bits() == b.to_bits() || a.is_nan() && b.is_nan();
+    !a.iter().zip(b).all(|(a, b)| alike(a, b))
+}
+
+/// In how many rows of WV, PROJ, MATERIAL, LIGHTS and PALETTE a mirror differs from a full packing.
+fn wrong_rows(state: &FfImage, key: &VsKey, mirror: &Mirror) -> Result<[usize; 5], Refusal> {
+    let sections = [
+        (ROW_WV, state.fill_wv_section(key)),
+        (ROW_PROJ, state.fill_proj_section(key)),
+        (ROW_MATERIAL, state.fill_material_section(key)),
+        (ROW_LIGHTS, state.fill_lights_section(key)?),
+        (ROW_PALETTE, state.fill_palette_section(key)),
+    ];
+    let held = mirror.rows();
+    let wrong = |(first, packed): (usize, Vec<Row>)| {
+        let pairs = packed.iter().zip(&held[first..]);
+        pairs.filter(|(a, b)| differ(a, b)).count()
+    };
+    Ok(sections.map(wrong))
+}
+
+/// A mirror kept up with the state over some frames.
+fn frames(state: &mut FfImage) -> Result<(), Box<dyn Error>> {
+    let key = key(state);
+    let mut mirror = Mirror::new();
+    mirror.as_mut_bytes().fill(0xA5);
+    // Bits were taken before there was a mirror.
+    state.mark_ff_vs_dirty(ALL_DIRTY)?;
+
+    println!("a new mirror: {:?}", wrong_rows(state, &key, &mirror)?);
+    println!("refreshed: {}", state.refresh(&key, &mut mirror)?);
+    println!("wrong rows: {:?}", wrong_rows(state, &key, &mirror)?);
+
+    for frame in 1..=3u8 {
+        state.set_transform(D3DTS_WORLD, &moved(f32::from(frame), 6.0, 7.0))?;
+        let bits = state.refresh(&key, &mut mirror)?;
+        let row = mirror.rows()[ROW_WV];
+        let wrong = wrong_rows(state, &key, &mirror)?;
+        println!("frame {frame}: refreshed {bits}, WV, row 0: {row:?}, wrong rows: {wrong:?}");
+    }
+
+    state.set_transform(D3DTS_VIEW, &moved(5.0, 6.0, 8.0))?;
+    println!("the view moves: {:?}", wrong_rows(state, &key, &mirror)?);
+    println!("refreshed: {}", state.refresh(&key, &mut mirror)?);
+    println!("wrong rows: {:?}", wrong_rows(state, &key, &mirror)?);
+
+    let light = 16 * ROW_LIGHTS..16 * (ROW_LIGHTS + 6);
+    mirror.as_mut_bytes()[light].fill(0xFF);
+    println!(
+        "a light's rows lost: {:?}",
+        wrong_rows(state, &key, &mirror)?
+    );
+    println!("refreshed, unmarked: {}", state.refresh(&key, &mut mirror)?);
+    println!("wrong rows: {:?}", wrong_rows(state, &key, &mirror)?);
+    state.mark_ff_vs_dirty(DIRTY_LIGHTS)?;
+    println!("refreshed, marked: {}", state.refresh(&key, &mut mirror)?);
+    println!("wrong rows: {:?}", wrong_rows(state, &key, &mirror)?);
+
+    state.mark_ff_vs_dirty(ALL_DIRTY)?;
+    let found = (state.clone(), mirror.clone());
+    let transformed = VsKey {
+        has_rhw: true,
+        ..key
+    };
+    if let Err(refusal) = state.refresh(&transformed, &mut mirror) {
+        println!("transformed vertices: {refusal}");
+    }
+    println!(
+        "left as found: {}",
+        (&*state, &mirror) == (&found.0, &found.1)
+    );
+    Ok(())
+}
+
 fn main() -> Result<(), Box<dyn Error>> {
     let mut state = FfImage::fresh();
     println!("dirty: {}", state.take_ff_vs_dirty());
 
-    let mut moved = Matrix::IDENTITY;
-    moved.m[3] = [5.0, 6.0, 7.0, 1.0];
-    state.set_transform(D3DTS_WORLD, &moved)?;
-    state.multiply_transform(D3DTS_VIEW, &moved)?;
+    let away = moved(5.0, 6.0, 7.0);
+    state.set_transform(D3DTS_WORLD, &away)?;
+    state.multiply_transform(D3DTS_VIEW, &away)?;
     println!("view, last row: {:?}", state.transform(D3DTS_VIEW)?.m[3]);
     let composite = state.world_view_projection();
     println!("world x view x projection, last row: {:?}", composite.m[3]);
     println!("world matrices: {}", state.world_palette_used());
     println!("dirty: {}", state.take_ff_vs_dirty());
-    if let Err(refusal) = state.set_transform(512, &moved) {
+    if let Err(refusal) = state.set_transform(512, &away) {
         println!("state 512: {refusal}");
     }
 
@@ -92,8 +179,8 @@ fn main() -> Result<(), Box<dyn Error>> {
     }
 
     pack(&state)?;
+    frames(&mut state)?;
 
-    state.mark_ff_vs_dirty(ALL_DIRTY)?;
     let stored = *state.as_bytes();
     println!("read in again: {}", FfImage::from_bytes(&stored)? == state);
     if let Err(refusal) = FfImage::from_bytes(&stored[..100]) {

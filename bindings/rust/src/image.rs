@@ -15,7 +15,19 @@ pub const D3DTS_TEXTURE0: u32 = 16;
 /// The state number of the first of 256 world matrices.
 pub const D3DTS_WORLD: u32 = 256;
 
-/// The bits of all six sections: WV 1, PROJ 2, MATERIAL 4, LIGHTS 8, PALETTE 16, TT 32.
+/// The dirty bit of WV.
+pub const DIRTY_WV: u32 = 1;
+/// The dirty bit of PROJ.
+pub const DIRTY_PROJ: u32 = 2;
+/// The dirty bit of MATERIAL.
+pub const DIRTY_MATERIAL: u32 = 4;
+/// The dirty bit of LIGHTS.
+pub const DIRTY_LIGHTS: u32 = 8;
+/// The dirty bit of PALETTE.
+pub const DIRTY_PALETTE: u32 = 16;
+/// The dirty bit of TT.
+pub const DIRTY_TT: u32 = 32;
+/// The bits of all six sections.
 pub const ALL_DIRTY: u32 = 63;
 
 /// How many lights can be stored from index 8 on.
@@ -81,6 +93,11 @@ impl FfImage {
     #[must_use]
     pub fn as_bytes(&self) -> &[u8; Self::BYTES] {
         &self.bytes
+    }
+
+    /// The image, for a call that writes it back: whatever the call answers, the bytes stay an image.
+    pub(crate) fn lent(&mut self) -> &mut [u8; Self::BYTES] {
+        &mut self.bytes
     }
 
     /// Stores a matrix and dirties what is made from it, or answers with [`Refusal::UnknownState`].

@@ -24,12 +24,27 @@
 //! assert_eq!(rows[0], [1.0, 0.0, 0.0, 0.0]);
 //! ```
 //!
+//! A [`Mirror`] of all these rows is kept up with the state by [`FfImage::refresh`], which writes the dirty sections alone:
+//!
+//! ```
+//! use ff_state::{D3DTS_VIEW, FfImage, Matrix, Mirror, VsKey};
+//!
+//! let (mut state, mut mirror) = (FfImage::fresh(), Mirror::new());
+//! assert_eq!(state.refresh(&VsKey::default(), &mut mirror), Ok(ff_state::ALL_DIRTY));
+//! state.set_transform(D3DTS_VIEW, &Matrix::IDENTITY)?;
+//! let written = ff_state::DIRTY_WV | ff_state::DIRTY_LIGHTS | ff_state::DIRTY_PALETTE;
+//! assert_eq!(state.refresh(&VsKey::default(), &mut mirror), Ok(written));
+//! assert_eq!(mirror.rows()[ff_state::ROW_WV], [1.0, 0.0, 0.0, 0.0]);
+//! # Ok::<(), ff_state::Refusal>(())
+//! ```
+//!
 //! A NaN of any bit pattern is a NaN: what is stored and answered is 0x7FC00000.
 
 #![warn(missing_docs)]
 
 mod arithmetic;
 mod image;
+mod mirror;
 mod packing;
 mod raw;
 mod records;
@@ -37,9 +52,11 @@ mod refusal;
 
 pub use arithmetic::{cos, inverse, mat_mul, sqrt, transpose};
 pub use image::{
-    ALL_DIRTY, D3DTS_PROJECTION, D3DTS_TEXTURE0, D3DTS_VIEW, D3DTS_WORLD, FfImage, LightMasks,
+    ALL_DIRTY, D3DTS_PROJECTION, D3DTS_TEXTURE0, D3DTS_VIEW, D3DTS_WORLD, DIRTY_LIGHTS,
+    DIRTY_MATERIAL, DIRTY_PALETTE, DIRTY_PROJ, DIRTY_TT, DIRTY_WV, FfImage, LightMasks,
     OVERFLOW_LIGHTS,
 };
+pub use mirror::{Mirror, ROW_LIGHTS, ROW_MATERIAL, ROW_PALETTE, ROW_PROJ, ROW_WV};
 pub use packing::{Row, VsKey};
 pub use records::{
     Color, D3DLIGHT_DIRECTIONAL, D3DLIGHT_POINT, D3DLIGHT_SPOT, Light, Material, Matrix, Vector,

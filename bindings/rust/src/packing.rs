@@ -7,12 +7,12 @@ use crate::refusal::Refusal;
 /// A row of the shader's constants.
 pub type Row = [f32; 4];
 
-const ROW_BYTES: usize = 16;
+pub(crate) const ROW_BYTES: usize = 16;
 
 /// What of a shader's key the rows depend on.
 #[derive(Clone, Copy, Debug, Default, PartialEq, Eq, Hash)]
 pub struct VsKey {
-    /// The vertices are transformed already. Only the row count looks at it.
+    /// The vertices are transformed already: the row count is 1, and a refresh is refused. No section looks at it.
     pub has_rhw: bool,
     /// Lighting is on.
     pub lighting_enabled: bool,
@@ -142,14 +142,19 @@ impl FfImage {
         let (to, len) = (dst.as_mut_ptr(), dst.len());
         // SAFETY: each pointer goes with its slice's length, and the two are apart.
         Refusal::of(unsafe { fill(image.as_ptr(), image.len(), a, b, c, d, e, f, g, to, len) })?;
-        let fours = dst.as_chunks().0.iter();
-        let floats: Vec<f32> = fours.map(|&four| f32::from_le_bytes(four)).collect();
-        Ok(floats.as_chunks().0.to_vec())
+        Ok(rows_of(&dst))
     }
 }
 
+/// The rows that such bytes mean.
+pub(crate) fn rows_of(bytes: &[u8]) -> Vec<Row> {
+    let fours = bytes.as_chunks().0.iter();
+    let floats: Vec<f32> = fours.map(|&four| f32::from_le_bytes(four)).collect();
+    floats.as_chunks().0.to_vec()
+}
+
 /// The seven numbers as they cross.
-fn fields(key: &VsKey) -> [u8; 7] {
+pub(crate) fn fields(key: &VsKey) -> [u8; 7] {
     [
         u8::from(key.has_rhw),
         u8::from(key.lighting_enabled),

@@ -105,4 +105,5 @@ unsafe extern "C" {
     pub fn ff_fill_lights_section(image: *const u8, image_len: usize, has_rhw: u8, lit: u8, specular: u8, indexed: u8, mask: u8, fog: u8, count: u8, dst: *mut u8, dst_len: usize) -> u32;
     pub fn ff_fill_palette_section(image: *const u8, image_len: usize, has_rhw: u8, lit: u8, specular: u8, indexed: u8, mask: u8, fog: u8, count: u8, dst: *mut u8, dst_len: usize) -> u32;
     pub fn ff_fill_tt_section(image: *const u8, image_len: usize, has_rhw: u8, lit: u8, specular: u8, indexed: u8, mask: u8, fog: u8, count: u8, dst: *mut u8, dst_len: usize) -> u32;
+    pub fn ff_refresh(image: *mut u8, image_len: usize, has_rhw: u8, lit: u8, specular: u8, indexed: u8, mask: u8, fog: u8, count: u8, mirror: *mut u8, mirror_len: usize, out: *mut u32) -> u32;
 }

@@ -22,12 +22,14 @@ pub enum Refusal {
     Singular = 6,
     /// Dirty bits above [`ALL_DIRTY`](crate::ALL_DIRTY).
     UnknownBits = 7,
+    /// The key is of transformed vertices, which read no section.
+    HasRhw = 8,
     /// The bytes are no state image.
     NoImage = 9,
 }
 
 impl Refusal {
-    const ALL: [Self; 8] = [
+    const ALL: [Self; 9] = [
         Self::UnknownState,
         Self::UndefinedLight,
         Self::LightsFull,
@@ -35,6 +37,7 @@ impl Refusal {
         Self::WrongMask,
         Self::Singular,
         Self::UnknownBits,
+        Self::HasRhw,
         Self::NoImage,
     ];
 
@@ -55,6 +58,7 @@ impl Refusal {
             Self::WrongMask => "the key's light mask is not that of the lights that light",
             Self::Singular => "the matrix has no inverse",
             Self::UnknownBits => "dirty bits above the six",
+            Self::HasRhw => "the key is of transformed vertices",
             Self::NoImage => "the bytes are no state image",
         }
     }

@@ -1,10 +1,10 @@
 // A loop for each section.
-use crate::inputs::eight_spots;
-use crate::inputs::full_key;
-use crate::inputs::one_if_packed;
-use crate::inputs::place;
-use crate::inputs::spread;
-use crate::inputs::spread_world;
+use crate::turns::one_if_packed;
+use crate::turns::place;
+use bench_inputs::eight_spots;
+use bench_inputs::full_key;
+use bench_inputs::spread;
+use bench_inputs::spread_world;
 use ff_state::FfState;
 use packing::fill_lights_section;
 use packing::fill_material_section;

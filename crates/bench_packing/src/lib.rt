@@ -4,4 +4,4 @@
 // count. Each answers how many fills were packed: all of them, where the floats lent are sixteen times
 // the section's.
 mod fills;
-mod inputs;
+mod turns;

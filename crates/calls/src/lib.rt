@@ -9,6 +9,7 @@ pub use bits::mark_ff_vs_dirty;
 pub use bits::take_ff_vs_dirty;
 pub use images::image_check;
 pub use images::image_fresh;
+pub use images::put_state;
 pub use lights::compacted_light_masks;
 pub use lights::get_light_at;
 pub use lights::is_light_defined_at;

@@ -1,5 +1,4 @@
 -- The definitions compute to document 01's cases, so that a definition bent together with its code is refused here. Assumes nothing.
-use Prim.Native.Nat.{ℕ}
 use mathlib.Core.Path.{_≡_, refl}
 use mathlib.Core.Bool.{true}
 use Rattle.d3d9_types.specs.Light.{defaultLight}

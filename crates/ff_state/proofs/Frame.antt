@@ -1,13 +1,13 @@
 -- A section that is not marked after a call has the inputs that it had before it (`unmarked-same`): a call that changes what a section is made from marks the section.
 -- Assumes nothing.
 use Prim.Native.Nat.{ℕ, zero, suc, _+_, _^_}
-use mathlib.Core.Path.{_≡_, refl, sym, ap, subst, _∙_}
-use mathlib.Core.Bool.{Bool, true, false, cond, _||_, _&&_}
+use mathlib.Core.Path.{_≡_, refl, sym, _∙_}
+use mathlib.Core.Bool.{Bool, false, _&&_}
 use native.Mathlib.Omega.{arith}
-use lib.Dec.{T, eqb, eqb·suc-zero, leb, ltb}
-use lib.ListN.{set, getD}
+use lib.Dec.{eqb·suc-zero, leb, ltb}
+use lib.ListN.{set}
 use lib.Seq.{getD-set-other}
-use borrow.Author.Tests.{eqb-false, ne-eqb}
+use Rattle.lemmas.proofs.Tests.{never, neither}
 use Rattle.lemmas.proofs.Branch.{branch}
 use mathlib.Core.List.{List}
 use Rattle.matrix.specs.Product.{matMul}
@@ -18,7 +18,7 @@ use Rattle.d3d9_types.specs.declared.light.D3DLIGHT9.{D3DLIGHT9}
 use Rattle.ff_state.specs.Active.{activeLights, lightActiveMask}
 use Rattle.ff_state.specs.Overflow.{used}
 use Rattle.light_table.specs.Overflow.{usedCount, insertedAt}
-use Rattle.ff_state.specs.Sections.{bitOf, bitsOf, bitPlace, hasSection, allBits}
+use Rattle.ff_state.specs.Sections.{bitOf, bitPlace, hasSection, allBits}
 use Rattle.light_table.specs.Bits.{hasBit, withBit}
 use Rattle.ff_state.specs.State.{noMatrix, withMaterial, withLightEnabled, withOverflowLights, withOverflowCount}
 use Rattle.light_table.specs.Entry.{entry}
@@ -42,16 +42,9 @@ use Rattle.ff_state.specs.declared.transforms.Slot.the-variants.{At, Unk
 use Rattle.light_table.proofs.Words.{has-or}
 
 -- a bit that is not set after marking was not among those marked
-right-false : (a b : Bool) → (a || b) ≡ false → b ≡ false
-right-false true b e = absurd (subst T e tt)
-right-false false b e = e
-
 unmarked : (s : FfState) (bits : ℕ) (σ : Section) → hasSection (dirtied s bits .«ff_vs_dirty») σ ≡ false → hasSection bits σ ≡ false
 unfolding dirtied
-unmarked s bits σ e = right-false (hasBit (s .«ff_vs_dirty») (bitPlace σ)) (hasBit bits (bitPlace σ)) (sym (has-or (s .«ff_vs_dirty») bits (bitPlace σ)) ∙ e)
-
-never : {A : Type 0} → true ≡ false → A
-never e = absurd (subst T e tt)
+unmarked s bits σ e = neither (hasBit (s .«ff_vs_dirty») (bitPlace σ)) (hasBit bits (bitPlace σ)) (sym (has-or (s .«ff_vs_dirty») bits (bitPlace σ)) ∙ e) .1
 
 same : (σ : Section) (s : FfState) → sameInputs σ s s
 same Wv s = (refl, refl)

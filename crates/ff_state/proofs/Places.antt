@@ -1,8 +1,8 @@
 -- Every place that a number names is in range. Assumes nothing.
-use Prim.Native.Nat.{ℕ, _-_, _<_}
+use Prim.Native.Nat.{ℕ}
 use native.Mathlib.Omega.{arith}
-use mathlib.Core.Path.{_≡_, refl, sym, subst}
-use mathlib.Core.Bool.{Bool, true, false}
+use mathlib.Core.Path.{_≡_, subst}
+use mathlib.Core.Bool.{true}
 use lib.Dec.{ltb, eqb}
 use borrow.Author.Tests.{ltb-true}
 use Rattle.lemmas.proofs.Branch.{branch}
@@ -11,7 +11,6 @@ use Rattle.ff_state.specs.declared.state.FfState.{FfState}
 use Rattle.ff_state.specs.declared.transforms.TransformChanged.{TransformChanged}
 use Rattle.ff_state.specs.declared.transforms.TransformAnswer.the-variants as Answers
 use Rattle.ff_state.specs.declared.transforms.Place.{Place}
-use Rattle.ff_state.specs.declared.transforms.Place.the-variants.{View, Projection, Texture, Palette}
 use Rattle.ff_state.specs.declared.transforms.Slot.{Slot}
 use Rattle.ff_state.specs.declared.transforms.Slot.the-variants.{At, Unknown}
 

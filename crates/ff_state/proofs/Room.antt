@@ -5,6 +5,7 @@ use mathlib.Core.Path.{_≡_, refl}
 use mathlib.Core.Bool.{Bool, true, false, cond, _&&_, _||_, true≢false, false≢true}
 use lib.Dec.{ltb}
 use borrow.Author.Tests.{lt-ltb, le-ltb, ltb-true, ltb-false}
+use Rattle.lemmas.proofs.Tests.{neither}
 use Rattle.d3d9_types.specs.Light.{defaultLight}
 use Rattle.d3d9_types.specs.declared.light.D3DLIGHT9.{D3DLIGHT9}
 use Rattle.light_table.specs.Entry.{entry}
@@ -17,10 +18,6 @@ use Rattle.ff_state.specs.declared.lights.LightAnswer.the-variants.{Full
 use Rattle.ff_state.specs.declared.lights.LightChanged.{LightChanged}
 use Rattle.light_table.proofs.LowerBound.{used-most}
 use Rattle.ff_state.proofs.Found.{place-used-most}
-
-neither : (a b : Bool) → (a || b) ≡ false → (a ≡ false) × (b ≡ false)
-neither true b h = absurd (true≢false h)
-neither false b h = (refl, h)
 
 -- one call of four outcomes: the slot, the entry there is, one more, none
 module _ (low stored free near : Bool) (a b c d : LightChanged) where

@@ -1,5 +1,5 @@
 -- Lights by any index. Document 01, 'Calls that change the state', the paragraph on lights; Microsoft, IDirect3DDevice9::SetLight, LightEnable, GetLight, GetLightEnable.
-use Prim.Native.Nat.{ℕ, suc, _+_}
+use Prim.Native.Nat.{ℕ, _+_}
 use mathlib.Core.Bool.{Bool, cond, not, _&&_, _||_}
 use lib.Dec.{ltb, eqb}
 use lib.ListN.{set, getD}

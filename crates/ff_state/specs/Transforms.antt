@@ -1,5 +1,5 @@
 -- Transforms. Document 01, 'Calls that change the state'; ff_state.rs 319–430. D3DTRANSFORMSTATETYPE: VIEW 2, PROJECTION 3, TEXTURE0 to 7 16 to 23, WORLDMATRIX(i) 256 + i.
-use Prim.Native.Nat.{ℕ, suc, _+_, _-_, _<_, max}
+use Prim.Native.Nat.{ℕ, _+_, _-_, _<_, max}
 use mathlib.Core.Bool.{cond}
 use mathlib.Core.List.{List, [], _∷_}
 use lib.Dec.{ltb, eqb}

@@ -1,9 +1,7 @@
 -- What holds of every state that the calls make from the fresh one, and of every state that an image holds. Document 01, 'State image'; ff_state.rs 149–248.
 use Prim.Native.Nat.{ℕ, _-_, _≤_, _<_}
 use mathlib.Core.Path.{_≡_}
-use mathlib.Core.Bool.{Bool, true, false, _&&_}
-use mathlib.Core.Logic.{_⊎_}
-use mathlib.Core.List.{List}
+use mathlib.Core.Bool.{true, false, _&&_}
 use lib.Dec.{eqb}
 use lib.ListN.{length, drop, getD, replicate}
 use Rattle.d3d9_types.specs.Light.{defaultLight, lightFits}

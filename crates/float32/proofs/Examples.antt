@@ -5,8 +5,7 @@ use mathlib.Core.Path.{_≡_, refl}
 use mathlib.Core.Bool.{Bool, true, _&&_}
 use mathlib.Core.List.{List, [], _∷_}
 use lib.Dec.{eqb}
-use lib.Ieee.{Float, nan, inf, binary32, size, odd, round, sum, span, climb, units, ofBits, ofFields, toBits, ofInt, add, sub, mul, div, rem, neg, lt, isNan}
-use lib.Count.{trailingZeros}
+use lib.Ieee.{Float, nan, inf, binary32, odd, ofBits, toBits, ofInt, add, sub, mul, div, rem, neg, lt, isNan}
 use Rattle.float32.specs.Larger.{larger}
 use Rattle.float32.specs.Root.{rootFrom, floorRoot, nearestRoot, rootOf, sqrtOf}
 use Rattle.float32.specs.Cosine.{magnitude, turn, halfTurn, quarterTurn, folded, fraction, horner, polynomial, cosFolded, cosOf}

@@ -1,6 +1,6 @@
 -- The stand-in cosine of document 01, 'The arithmetic underneath', each step one rounded operation of `lib.Ieee`. The constants are the floats with those bits.
 use Prim.Native.Nat.{ℕ}
-use mathlib.Core.Bool.{Bool, true, false, cond}
+use mathlib.Core.Bool.{false, cond}
 use lib.IntN.{ℤ, pos, negsuc}
 use lib.Ieee.{Float, nan, inf, fin, binary32, ofBits, ofInt, add, sub, mul, div, rem, neg, lt}
 

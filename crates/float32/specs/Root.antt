@@ -1,7 +1,7 @@
 -- squareRoot of IEEE 754-2019 (clause 5.4.1) on binary32, rounded by roundTiesToEven (4.3.1), stated by squares of whole numbers.
 -- Document 01, 'The arithmetic underneath'. A finite value is m * up e / down e (`lib.Ieee`).
 use Prim.Native.Nat.{ℕ, zero, suc, _+_, _-_, _*_, _/_, _^_, _<_}
-use mathlib.Core.Bool.{Bool, true, false, not, cond}
+use mathlib.Core.Bool.{Bool, false, not, cond}
 use lib.Dec.{T, leb}
 use lib.Ieee.{Float, nan, inf, fin, binary32, up, down, size, odd, fits}
 

@@ -1,10 +1,11 @@
 // The C interface: each call over byte slices, thin over the crates below.
-mod bits;
-mod fills;
-mod images;
-mod lights;
-mod materials;
-mod matrices;
-mod row_counts;
-mod scalars;
-mod transforms;
+pub mod bits;
+pub mod fills;
+pub mod images;
+pub mod lights;
+pub mod materials;
+pub mod matrices;
+pub mod mirror;
+pub mod row_counts;
+pub mod scalars;
+pub mod transforms;

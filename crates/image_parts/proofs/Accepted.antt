@@ -19,7 +19,7 @@ use Rattle.image_parts.specs.Entry.{entryAt}
 use Rattle.image_parts.specs.Lists.{listAt}
 use Rattle.image_parts.specs.Tests.{nanFree, lightsNanFree, plainLight, entriesNanFree, plainEntry, ascends, flags, flagAt, zeros, bitsDefined, bitDefined, slotsDefault, slotDefault, defaultAt}
 use Rattle.image_parts.specs.Reasons.{anotherLength, dirtyAbove63, zeroByteSet, indexAbove255, countAbove56, countOf, numbersRefused, notAscending, enableNotFlag, unusedNotZero, entriesRefused, enabledUndefined, undefinedNotDefault, slotsRefused, anotherNaN, refused}
-use Rattle.image_parts.proofs.Either.{first, rest}
+use Rattle.lemmas.proofs.Tests.{neither}
 use Rattle.image_parts.proofs.Every.{every-holds}
 use Rattle.image_parts.proofs.Meaning.{default-is, WrittenAsRead, floats-back}
 use Rattle.image_parts.proofs.Numbers.{few-entries}
@@ -84,33 +84,33 @@ module _ (bytes : List ℕ) (at : ℕ) where
 pub accepted : (bytes : List ℕ) → refused bytes ≡ false → Accepted bytes
 unfolding refused numbersRefused entriesRefused slotsRefused anotherNaN
 accepted bytes h =
-    let len : length bytes ≡ 24_204 = eqb-true (length bytes) 24_204 (not-false (eqb (length bytes) 24_204) (first (anotherLength bytes) _ h)) in
-    let h₁ = rest (anotherLength bytes) (numbersRefused bytes || (entriesRefused bytes || (slotsRefused bytes || anotherNaN bytes))) h in
-    let numbers = first (numbersRefused bytes) _ h₁ in
-    let h₂ = rest (numbersRefused bytes) (entriesRefused bytes || (slotsRefused bytes || anotherNaN bytes)) h₁ in
-    let entries = first (entriesRefused bytes) _ h₂ in
-    let h₃ = rest (entriesRefused bytes) (slotsRefused bytes || anotherNaN bytes) h₂ in
-    let slots = first (slotsRefused bytes) _ h₃ in
-    let nans = rest (slotsRefused bytes) (anotherNaN bytes) h₃ in
+    let len : length bytes ≡ 24_204 = eqb-true (length bytes) 24_204 (not-false (eqb (length bytes) 24_204) (neither (anotherLength bytes) _ h .0)) in
+    let h₁ = neither (anotherLength bytes) (numbersRefused bytes || (entriesRefused bytes || (slotsRefused bytes || anotherNaN bytes))) h .1 in
+    let numbers = neither (numbersRefused bytes) _ h₁ .0 in
+    let h₂ = neither (numbersRefused bytes) (entriesRefused bytes || (slotsRefused bytes || anotherNaN bytes)) h₁ .1 in
+    let entries = neither (entriesRefused bytes) _ h₂ .0 in
+    let h₃ = neither (entriesRefused bytes) (slotsRefused bytes || anotherNaN bytes) h₂ .1 in
+    let slots = neither (slotsRefused bytes) _ h₃ .0 in
+    let nans = neither (slotsRefused bytes) (anotherNaN bytes) h₃ .1 in
     let plain =
     and-eq-true-iff (nanFree 4_273 bytes 0) (lightsNanFree bytes 17_092 && entriesNanFree bytes 17_932) .0
     (not-false (nanFree 4_273 bytes 0 && (lightsNanFree bytes 17_092 && entriesNanFree bytes 17_932)) nans) in
     let plains = and-eq-true-iff (lightsNanFree bytes 17_092) (entriesNanFree bytes 17_932) .0 (plain .1) in
-    let n₁ = rest (dirtyAbove63 bytes) (zeroByteSet bytes || (indexAbove255 bytes || countAbove56 bytes)) numbers in
-    let n₂ = rest (zeroByteSet bytes) (indexAbove255 bytes || countAbove56 bytes) n₁ in
-    let e₁ = rest (notAscending bytes) (enableNotFlag bytes || unusedNotZero bytes) entries in
+    let n₁ = neither (dirtyAbove63 bytes) (zeroByteSet bytes || (indexAbove255 bytes || countAbove56 bytes)) numbers .1 in
+    let n₂ = neither (zeroByteSet bytes) (indexAbove255 bytes || countAbove56 bytes) n₁ .1 in
+    let e₁ = neither (notAscending bytes) (enableNotFlag bytes || unusedNotZero bytes) entries .1 in
     let few : countOf bytes ≤ 56 = few-entries bytes numbers in
     record {
       long = len;
-      dirty = ltb-false 63 (numberAt 1 bytes 17_926) (first (dirtyAbove63 bytes) _ numbers);
-      zero = eqb-true (numberAt 1 bytes 17_927) 0 (not-false (eqb (numberAt 1 bytes 17_927) 0) (first (zeroByteSet bytes) _ n₁));
-      index = ltb-false 255 (numberAt 2 bytes 17_928) (first (indexAbove255 bytes) _ n₂);
+      dirty = ltb-false 63 (numberAt 1 bytes 17_926) (neither (dirtyAbove63 bytes) _ numbers .0);
+      zero = eqb-true (numberAt 1 bytes 17_927) 0 (not-false (eqb (numberAt 1 bytes 17_927) 0) (neither (zeroByteSet bytes) _ n₁ .0));
+      index = ltb-false 255 (numberAt 2 bytes 17_928) (neither (indexAbove255 bytes) _ n₂ .0);
       count = few;
-      sorted = ascends-is (countOf bytes) bytes 17_932 (first (notAscending bytes) _ entries);
-      enables = flags-are (countOf bytes) bytes 17_932 (first (enableNotFlag bytes) _ e₁);
-      unused = unused-entries (countOf bytes) bytes 17_932 few (omega arith) (not-false (zeros (6_272 - 112 * countOf bytes) bytes (17_932 + 112 * countOf bytes)) (rest (enableNotFlag bytes) (unusedNotZero bytes) e₁));
-      enabled-defined = bits-are (numberAt 1 bytes 17_924) (numberAt 1 bytes 17_925) (first (enabledUndefined bytes) _ slots);
-      undefined-default = slots-are (numberAt 1 bytes 17_925) bytes 17_092 (omega arith) (rest (enabledUndefined bytes) (undefinedNotDefault bytes) slots);
+      sorted = ascends-is (countOf bytes) bytes 17_932 (neither (notAscending bytes) _ entries .0);
+      enables = flags-are (countOf bytes) bytes 17_932 (neither (enableNotFlag bytes) _ e₁ .0);
+      unused = unused-entries (countOf bytes) bytes 17_932 few (omega arith) (not-false (zeros (6_272 - 112 * countOf bytes) bytes (17_932 + 112 * countOf bytes)) (neither (enableNotFlag bytes) (unusedNotZero bytes) e₁ .1));
+      enabled-defined = bits-are (numberAt 1 bytes 17_924) (numberAt 1 bytes 17_925) (neither (enabledUndefined bytes) _ slots .0);
+      undefined-default = slots-are (numberAt 1 bytes 17_925) bytes 17_092 (omega arith) (neither (enabledUndefined bytes) (undefinedNotDefault bytes) slots .1);
       floats = λ (k : ℕ) (l : k < 4_273). rw zero-add at (floats-back 4_273 bytes 0 (plain .0) k l);
       light-floats = light-floats-are bytes 17_092 (plains .0);
       entry-floats = entry-floats-are bytes 17_932 (plains .1);

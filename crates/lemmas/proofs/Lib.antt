@@ -1,1 +1,3 @@
 pub mod Branch
+pub mod Tests
+pub mod Options

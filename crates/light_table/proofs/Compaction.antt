@@ -1,19 +1,18 @@
 -- Pushing lights one after another, up to a limit, gives the list of the first so many. Assumes nothing.
-use Prim.Native.Nat.{ℕ, zero, suc, _+_, _-_, _*_, _^_, _≤_, _<_, zero-le}
+use Prim.Native.Nat.{ℕ, suc, _+_, _-_, _*_, _^_, _≤_, _<_, zero-le}
 use native.Mathlib.Nat.{le-of-lt, le-refl, lt-of-not-le, pow-suc, min-le-left}
 use native.Mathlib.Numerals.{add-one}
 use native.Mathlib.Omega.{arith}
-use mathlib.Core.Path.{_≡_, refl, sym, ap, ap₂, subst, _∙_}
+use mathlib.Core.Path.{_≡_, refl, sym, ap, ap₂, _∙_}
 use mathlib.Core.Bool.{Bool, true, false, cond}
-use mathlib.Core.Logic.{_⊎_, inl, inr}
 use mathlib.Core.List.{List, [], _∷_, _++_, append-nil, append-assoc}
 use native.Mathlib.Decide.{decLe}
-use lib.Dec.{ltb, eqb, lit<}
+use lib.Dec.{eqb, lit<}
 use mir.Val.{boolByte}
 use lib.ListN.{length, take, drop, getD, set, replicate, length-append, length-take}
 use mir.Val.{Fits}
 use mir.Syntax.{w8}
-use lib.Seq.{take-append-seam, drop-cons, getD-take, take-all, take-append-le, length-take-le, set-at, append-snoc}
+use lib.Seq.{take-append-seam, drop-cons, getD-take, take-all, take-append-le, length-take-le, set-at}
 use borrow.Author.Tests.{lt-ltb, le-ltb}
 use Rattle.d3d9_types.specs.Light.{defaultLight}
 use lib.Ieee.{nan}

@@ -1,9 +1,9 @@
 -- One bit of a word: what `withBit` is in closed form, that it stays in its width, and which bits it and an or have. Each law is once over the bit.
 -- Assumes nothing.
 use Prim.Native.Nat.{ℕ, zero, suc, _+_, _*_, _/_, _%_, _^_, _<_, _≤_, max, min}
-use native.Mathlib.Nat.{one-mul, pow-suc, pow-zero, mul-one, add-zero, mod-one, div-one, mul-assoc, add-mul, div-div-eq-div-mul, lt-of-lt-of-le, mul-comm, pow-succ', le-of-suc-le-suc, div-lt-iff-lt-mul, zero-lt-suc, mod-lt, max-le, min-le-left, zero-div}
+use native.Mathlib.Nat.{one-mul, pow-suc, div-one, mul-assoc, div-div-eq-div-mul, pow-succ', le-of-suc-le-suc, zero-lt-suc, max-le, min-le-left, zero-div}
 use native.Mathlib.Omega.{arith}
-use mathlib.Core.Path.{_≡_, refl, sym, ap, ap₂, subst, _∙_}
+use mathlib.Core.Path.{_≡_, refl, sym, ap, ap₂, _∙_}
 use mathlib.Core.Bool.{Bool, true, false, cond, _&&_, _||_}
 use lib.Dec.{lit<, eqb, eqb·zero-suc, eqb·suc-zero, eqb·suc-suc}
 use lib.Arith.{mod-mul}

@@ -22,14 +22,20 @@ use sections::section_shape;
 // The floats of the mirror's 1,115 rows: no section has more.
 const MIRROR_FLOATS: usize = 4460;
 
-fn mirror_floats() -> [f32; MIRROR_FLOATS]
+pub fn mirror_floats() -> [f32; MIRROR_FLOATS]
     ensures { λ r. ⌜ length r ≡ 4460 ⌝ }
 {
     [0.0f32; MIRROR_FLOATS]
 }
 
 // Packs into the floats, and writes them as bytes.
-fn fill_bytes(section: Section, s: FfState, key: FfVsKey, floats: &mut [f32], dst: &mut [u8]) -> u32
+pub fn fill_bytes(
+    section: Section,
+    s: FfState,
+    key: FfVsKey,
+    floats: &mut [f32],
+    dst: &mut [u8],
+) -> u32
     requires { ⌜ (length (now floats) ≡ 4 * sectionRows section key noTextures) × (length (now dst) ≡ 4 * length (now floats)) ⌝ }
     ensures { λ r. ⌜ answer r (now (dst .exit)) ≡ answered (maskNumber section key s) (fillBytes section key s) (now (dst .entry)) ⌝ }
 {

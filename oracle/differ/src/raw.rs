@@ -105,4 +105,5 @@ unsafe extern "C" {
     pub fn ff_fill_lights_section(i: *const u8, n: usize, rhw: u8, lit: u8, specular: u8, indexed: u8, mask: u8, fog: u8, count: u8, dst: *mut u8, len: usize) -> u32;
     pub fn ff_fill_palette_section(i: *const u8, n: usize, rhw: u8, lit: u8, specular: u8, indexed: u8, mask: u8, fog: u8, count: u8, dst: *mut u8, len: usize) -> u32;
     pub fn ff_fill_tt_section(i: *const u8, n: usize, rhw: u8, lit: u8, specular: u8, indexed: u8, mask: u8, fog: u8, count: u8, dst: *mut u8, len: usize) -> u32;
+    pub fn ff_refresh(i: *mut u8, n: usize, rhw: u8, lit: u8, specular: u8, indexed: u8, mask: u8, fog: u8, count: u8, mirror: *mut u8, len: usize, out: *mut u32) -> u32;
 }

@@ -1,9 +1,8 @@
 -- The cosine of every operand is that of its folded magnitude, and it is an f32 value. Assumes nothing.
 use mathlib.Core.Path.{_≡_, refl}
-use mathlib.Core.Bool.{cond}
 use lib.Dec.{T}
 use lib.Ieee.{Float, nan, inf, fin, binary32, fits, ofBits, ofInt, rem, lt, sub, mul, add, div}
-use lib.Ieee.Fits.{add-fits, neg-fits, nan-fits, cond-fits}
+use lib.Ieee.Fits.{add-fits, neg-fits, cond-fits}
 use Rattle.float32.specs.Cosine.{magnitude, turn, halfTurn, quarterTurn, folded, fraction, horner, polynomial, cosFolded, cosOf}
 
 -- the three kinds of operand are one to the code

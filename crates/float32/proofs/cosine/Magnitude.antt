@@ -1,6 +1,6 @@
 -- The bits of a magnitude are the float's without the sign's. Assumes nothing.
 use Prim.Native.Nat.{ℕ, zero, suc, _+_, _-_, _*_, _/_, _%_, _^_, _<_}
-use native.Mathlib.Nat.{zero-add, add-assoc}
+use native.Mathlib.Nat.{add-assoc}
 use native.Mathlib.Omega.{arith}
 use mathlib.Core.Path.{_≡_, refl, sym, ap, subst, _∙_}
 use mathlib.Core.Bool.{Bool, true, false, cond}
@@ -8,7 +8,7 @@ use lib.IntN.{ℤ}
 use lib.Dec.{T}
 use lib.Ieee.{Float, nan, inf, fin, binary32, up, down, size, fits, toBits}
 use lib.Ieee.Bits.{toBits-lt}
-use lib.Ieee.Fits.{nan-fits, inf-fits, neg-fits}
+use lib.Ieee.Fits.{nan-fits, inf-fits}
 use Rattle.float32.specs.Cosine.{magnitude}
 
 -- what `toBits` adds to the sign

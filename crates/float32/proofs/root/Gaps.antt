@@ -1,11 +1,10 @@
 -- What lies between two neighbours of 24 digits: a count m * 2 ^ j with an m below 2 ^ 24 that reaches 2 ^ 23 * 2 ^ k is a multiple of 2 ^ k. So the nearest root of a number is nearer to the
 -- root than any other such count, by the squares of the midpoints. Whole numbers alone. Assumes nothing.
 use Prim.Native.Nat.{ℕ, suc, _+_, _-_, _*_, _^_, _≤_, _<_}
-use native.Mathlib.Nat.{le-refl, le-trans, le-of-eq, le-of-lt, lt-of-lt-of-le, lt-of-le-of-lt, le-of-suc-le-suc, lt-of-not-le, not-le-of-lt, mul-assoc, mul-comm, mul-left-comm, mul-le-mul, mul-le-mul-right, mul-le-mul-left, mul-lt-mul-of-pos-right, mul-lt-mul-of-pos-left, mul-pos, lt-of-mul-lt-mul-right, add-mul, one-mul, suc-mul}
-use native.Mathlib.Decide.{decLe}
+use native.Mathlib.Nat.{le-trans, le-of-eq, le-of-lt, lt-of-lt-of-le, lt-of-le-of-lt, le-of-suc-le-suc, lt-of-not-le, not-le-of-lt, mul-assoc, mul-comm, mul-left-comm, mul-le-mul, mul-le-mul-right, mul-le-mul-left, mul-lt-mul-of-pos-right, mul-pos, lt-of-mul-lt-mul-right, add-mul, one-mul, suc-mul}
 use native.Mathlib.Omega.{arith}
-use mathlib.Core.Path.{_≡_, refl, sym, ap, subst, _∙_}
-use mathlib.Core.Logic.{_⊎_, inl, inr, ⊎-elim}
+use mathlib.Core.Path.{_≡_, sym, ap, _∙_}
+use mathlib.Core.Logic.{⊎-elim}
 use lib.Pow.{pow-add, pow-mono, pow-pos}
 use Rattle.float32.proofs.root.Squares.{Near, square-lt}
 

@@ -1,25 +1,22 @@
 -- What callers may cite of the root. (a) `sqrt-nearest`: it is nearest, by squares. (b) `sqrt-only`: no other f32 value is. (c) `sqrt-exact`: the root of a square is exact.
 -- (d) `sqrt-normal`: the root of a finite value above zero is finite and not subnormal. (e) `sqrt-fits`: it is an f32 value. Assumes nothing.
-use Prim.Native.Nat.{ℕ, zero, suc, _+_, _-_, _*_, _/_, _%_, _^_, _≤_, _<_, zero-le}
-use native.Mathlib.Nat.{le-refl, le-trans, le-of-eq, le-of-lt, le-antisymm, le-of-suc-le-suc, lt-of-lt-of-le, lt-of-le-of-lt, lt-of-not-le, not-le-of-lt, lt-irrefl, zero-lt-suc, eq-zero-or-pos, zero-mul, zero-div, mul-one, one-mul, mul-zero, mul-assoc, mul-right-comm, mul-comm, mul-pos, mul-le-mul, mul-le-mul-right, mul-le-mul-left, mul-lt-mul-of-pos-right, lt-of-mul-lt-mul-right, mul-div-cancel, add-zero, add-comm}
-use native.Mathlib.Decide.{decLe}
+use Prim.Native.Nat.{ℕ, zero, suc, _+_, _-_, _*_, _/_, _%_, _^_, _≤_, _<_}
+use native.Mathlib.Nat.{le-trans, le-of-eq, le-of-lt, le-antisymm, le-of-suc-le-suc, lt-of-lt-of-le, lt-of-le-of-lt, lt-of-not-le, not-le-of-lt, lt-irrefl, zero-lt-suc, eq-zero-or-pos, zero-mul, zero-div, mul-one, one-mul, mul-assoc, mul-right-comm, mul-pos, mul-le-mul, mul-le-mul-right, mul-le-mul-left, mul-lt-mul-of-pos-right, lt-of-mul-lt-mul-right, add-comm}
 use native.Mathlib.Omega.{arith}
 use mathlib.Core.Path.{_≡_, refl, sym, ap, subst, _∙_}
-use mathlib.Core.Bool.{Bool, true, false, not, cond}
+use mathlib.Core.Bool.{Bool, true, false}
 use mathlib.Core.Logic.{_⊎_, inl, inr, ⊎-elim}
 use lib.IntN.{ℤ, pos, negsuc}
 use lib.Dec.{T, leb, ltb, eqb, leb→le, ltb→lt, lit<, lit≤}
-use lib.Pow.{pow-add, pow-mono, pow-lt, pow-pos, shl-lt}
-use lib.Ieee.{Float, nan, inf, fin, binary32, up, down, size, odd, fits, prec, emax, low}
-use lib.Ieee.Fits.{and-l, and-r, up-pos, down-pos, nan-fits, inf-fits}
+use lib.Pow.{pow-add, pow-mono, pow-lt, pow-pos}
+use lib.Ieee.{Float, nan, inf, fin, binary32, up, down, size, odd, fits}
+use lib.Ieee.Fits.{and-l, and-r, up-pos, nan-fits, inf-fits}
 use lib.Ieee.Digits.{size-lt, size-le, size-reaches}
 use lib.Ieee.Exact.{HasValue, odd-sign}
-use lib.Ieee.Scale.{finite}
 use lib.Ieee.Positive.{first-pos}
 use mathlib.Core.Bool.{_&&_}
 use Rattle.float32.specs.Root.{nearestRoot, rootOf, sqrtOf, inUnits, unsigned, NearestRoot}
-use Rattle.lemmas.proofs.Branch.{branch}
-use Rattle.float32.proofs.root.Squares.{Near, nearest-near, nearest-bounds, square-lt}
+use Rattle.float32.proofs.root.Squares.{nearest-near, nearest-bounds}
 use Rattle.float32.proofs.root.Values.{cut, value-unique, made-fits, root-of-value, root-moved}
 use Rattle.float32.proofs.root.Gaps.{gap-below, gap-above, square-mono, twice-square}
 

@@ -1,16 +1,16 @@
 -- The whole-number root: `floorRoot n` is the one r with r * r ≤ n < (r + 1) * (r + 1), and `nearestRoot n` is r or r + 1 by which side of r + 1/2 the root lies.
 -- Assumes nothing.
-use Prim.Native.Nat.{ℕ, zero, suc, _+_, _-_, _*_, _^_, _≤_, _<_, zero-le, suc-le-suc}
-use native.Mathlib.Nat.{le-trans, le-of-eq, le-of-lt, le-antisymm, lt-of-le-of-lt, lt-of-lt-of-le, le-of-suc-le-suc, lt-of-not-le, not-le-of-lt, mul-le-mul, mul-add, add-mul, mul-comm, mul-assoc, mul-left-comm, add-assoc, add-comm, add-left-comm, zero-add, two-pow-succ}
+use Prim.Native.Nat.{ℕ, zero, suc, _+_, _-_, _*_, _^_, _≤_, _<_, zero-le}
+use native.Mathlib.Nat.{le-of-lt, le-antisymm, lt-of-le-of-lt, le-of-suc-le-suc, lt-of-not-le, not-le-of-lt, mul-le-mul, mul-add, add-mul, mul-comm, mul-assoc, mul-left-comm, add-assoc, add-comm, add-left-comm, two-pow-succ}
 use native.Mathlib.Omega.{arith}
 use native.Mathlib.Numerals.{add-one}
 use mathlib.Core.Path.{_≡_, refl, sym, ap, subst, _∙_}
-use mathlib.Core.Bool.{Bool, true, false, cond}
+use mathlib.Core.Bool.{true, false}
 use mathlib.Core.Logic.{_⊎_, inl, inr}
 use lib.Dec.{leb, lit<}
 use mir.Val.{Fits}
 use mir.Syntax.{w64}
-use borrow.Author.Tests.{leb-true, leb-false, le-leb, lt-leb}
+use borrow.Author.Tests.{leb-true, leb-false}
 use Rattle.lemmas.proofs.Branch.{branch}
 use Rattle.float32.specs.Root.{rootFrom, floorRoot, nearestRoot}
 

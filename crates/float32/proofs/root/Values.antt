@@ -1,13 +1,13 @@
 -- A finite float as a count of the format's least value, 2 ^ -149: what its bits, its root and the float made of a count are in terms of the count.
 -- `HasValue x false a (2 ^ 149)` says that x is a of these units, with the sign clear. Assumes nothing.
 use Prim.Native.Nat.{ℕ, zero, suc, _+_, _-_, _*_, _/_, _%_, _^_, _≤_, _<_}
-use native.Mathlib.Nat.{le-refl, le-trans, le-of-eq, le-of-lt, le-antisymm, lt-of-lt-of-le, lt-of-le-of-lt, lt-of-not-le, not-le-of-lt, lt-irrefl, eq-or-lt-of-le, zero-add, zero-mul, mul-one, mul-assoc, mul-right-comm, mul-pos, mul-le-mul-right, mul-div-cancel, mod-eq-of-lt, div-add-mod'}
+use native.Mathlib.Nat.{le-refl, le-trans, le-of-eq, le-of-lt, le-antisymm, lt-of-lt-of-le, lt-of-le-of-lt, lt-of-not-le, lt-irrefl, eq-or-lt-of-le, zero-add, zero-mul, mul-one, mul-assoc, mul-right-comm, mul-pos, mul-le-mul-right, mul-div-cancel, mod-eq-of-lt}
 use native.Mathlib.Omega.{arith}
 use mathlib.Core.Path.{_≡_, refl, sym, ap, subst, _∙_}
-use mathlib.Core.Bool.{Bool, true, false, cond}
+use mathlib.Core.Bool.{true, false, cond}
 use mathlib.Core.Logic.{_⊎_, inl, inr, ⊎-elim}
 use lib.IntN.{ℤ}
-use lib.Dec.{T, leb, eqb, lit<, lit≤}
+use lib.Dec.{T, eqb, lit<}
 use lib.Pow.{pow-add, pow-mono, pow-pos, shl-lt, shl-shr}
 use lib.Ieee.{Float, nan, inf, fin, binary32, up, down, size, odd, fits, ofBits, ofFields, toBits}
 use lib.Ieee.Fits.{odd-fits, down-pos}

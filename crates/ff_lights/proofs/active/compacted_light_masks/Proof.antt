@@ -1,12 +1,11 @@
 -- `ff_lights::compacted_light_masks` meets its contract: the masks of the resolved list, whose first `len` lights are the list itself. Assumes nothing.
-use Prim.Native.Nat.{ℕ, _≤_}
-use mathlib.Core.Path.{_≡_, refl, sym, ap, subst, _∙_}
+use Prim.Native.Nat.{_≤_}
+use mathlib.Core.Path.{_≡_, sym, ap, subst, _∙_}
 use borrow.Author.Needs.{needs}
 use lib.ListN.{length, take}
 use Rattle.ff_state.specs.Active.{activeLights, compactedLightMasks, resolveActiveLights}
 use Rattle.light_table.specs.Active.{listed, kindMask, lowBits, masksOf}
 use Rattle.light_table.specs.declared.active.ActiveLights.{ActiveLights}
-use Rattle.light_table.specs.declared.active.LightMasks.{LightMasks}
 use Rattle.light_table.proofs.Compaction.{listed-len, listed-front}
 use Rattle.ff_lights.proofs.active.compacted_light_masks.Statement.{statement}
 use Rattle.ff_lights.proofs.active.compacted_light_masks.Tie as tie

@@ -1,7 +1,6 @@
 -- `ff_lights::resolve_active_lights` meets its contract: the active slots and then the active entries are pushed from nothing (`pushed-two`). Assumes nothing.
 use Prim.Native.Nat.{ℕ}
-use mathlib.Core.Path.{_≡_, refl, ap, ap₂, _∙_}
-use mathlib.Core.List.{List}
+use mathlib.Core.Path.{ap₂, _∙_}
 use lib.ListN.{take}
 use borrow.Author.Needs.{needs}
 use Rattle.ff_state.specs.Overflow.{used}

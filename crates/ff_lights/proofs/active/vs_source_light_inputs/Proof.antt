@@ -1,5 +1,5 @@
 -- `ff_lights::vs_source_light_inputs` meets its contract: the raw masks while no overflow light is stored, else the compacted ones and 1. Assumes nothing.
-use mathlib.Core.Path.{_≡_, ap, _∙_}
+use mathlib.Core.Path.{ap, _∙_}
 use borrow.Author.Tests.{eq-eqb, ne-eqb}
 use Rattle.ff_state.specs.Active.{lightActiveMask, vsSourceLightInputs}
 use Rattle.light_table.specs.Active.{fourBytes}

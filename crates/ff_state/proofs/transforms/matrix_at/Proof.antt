@@ -1,10 +1,8 @@
 -- `ff_state::transforms::matrix_at` meets its contract: each arm reads where `matrixAt` does, at an index in range. Assumes nothing.
-use Prim.Native.Nat.{_<_}
 use native.Mathlib.Omega.{arith}
-use mathlib.Core.Path.{_≡_, refl, sym, ap, subst}
+use mathlib.Core.Path.{subst}
 use borrow.Author.Needs.{needs}
 use Rattle.ff_state.specs.Transforms.{InRange, matrixAt}
-use Rattle.ff_state.specs.declared.transforms.Place.{Place}
 use Rattle.ff_state.proofs.transforms.matrix_at.Statement.{statement}
 use Rattle.ff_state.proofs.transforms.matrix_at.Tie as tie
 

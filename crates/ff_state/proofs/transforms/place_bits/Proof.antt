@@ -1,5 +1,4 @@
 -- `ff_state::transforms::place_bits` meets its contract: each arm adds the bits of the sections that `placeSections` names. Assumes nothing.
-use mathlib.Core.Path.{refl}
 use borrow.Author.Tests.{eq-eqb, ne-eqb}
 use Rattle.ff_state.specs.Transforms.{placeSections}
 use borrow.Author.Needs.{needs}

@@ -2,7 +2,7 @@
 use Prim.Native.Nat.{ℕ, _<_, _≤_, max}
 use native.Mathlib.Nat.{max-eq-left, max-eq-right}
 use native.Mathlib.Omega.{arith}
-use mathlib.Core.Path.{_≡_, refl, sym, subst}
+use mathlib.Core.Path.{_≡_, subst}
 use Rattle.ff_state.specs.Transforms.{InRange, placed}
 use borrow.Author.Needs.{needs}
 use Rattle.ff_state.proofs.transforms.placed_at.Statement.{statement}

@@ -1,6 +1,4 @@
 -- `ff_state::transforms::slot_of` meets its contract: its tests are the definition's, in the same order. Assumes nothing.
-use native.Mathlib.Omega.{arith}
-use mathlib.Core.Path.{refl}
 use borrow.Author.Needs.{needs}
 use borrow.Author.Tests.{eq-eqb, ne-eqb, lt-ltb, le-ltb}
 use Rattle.ff_state.specs.Transforms.{slotOf}

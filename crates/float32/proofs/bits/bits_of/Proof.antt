@@ -1,6 +1,6 @@
 -- `float32::bits::bits_of` meets its contract. A value that differs from itself is the NaN, whose pattern in `toBits` is the one returned; any other has its own bits.
 -- Assumes nothing.
-use mathlib.Core.Path.{_≡_, refl, sym, ap, subst}
+use mathlib.Core.Path.{sym, ap, subst}
 use mathlib.Core.Bool.{Bool, not}
 use lib.Dec.{T}
 use lib.Ieee.{binary32, toBits}

@@ -1,6 +1,6 @@
 -- `float32::bits::of_bits` meets its contract. A pattern above infinity's, without its sign, is a NaN's, and 0.0 / 0.0 is the NaN; any other pattern is read as it is.
 -- Assumes nothing.
-use mathlib.Core.Path.{_≡_, sym, subst}
+use mathlib.Core.Path.{sym, subst}
 use mathlib.Core.Bool.{Bool, not}
 use lib.Dec.{T}
 use lib.Ieee.{div, ofBits}

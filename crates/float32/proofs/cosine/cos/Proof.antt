@@ -1,10 +1,10 @@
 -- `float32::cosine::cos` meets its contract. A NaN and an infinity fold to NaN, and NaN goes through the polynomial; for any other x each return is what `cond` picks.
 -- Assumes nothing.
-use mathlib.Core.Path.{_≡_, refl, sym, ap, _∙_}
+use mathlib.Core.Path.{_≡_, sym, ap, _∙_}
 use mathlib.Core.Bool.{true, false}
 use lib.Ieee.{Float, nanBits, binary32, neg, sub, lt}
 use borrow.Author.Needs.{needs}
-use Rattle.float32.specs.Cosine.{magnitude, folded, halfTurn, quarterTurn, polynomial, cosFolded, cosOf}
+use Rattle.float32.specs.Cosine.{folded, halfTurn, quarterTurn, polynomial, cosFolded, cosOf}
 use Rattle.float32.proofs.cosine.Laws.{cos-is}
 use Rattle.float32.proofs.cosine.cos.Statement.{statement}
 use Rattle.float32.proofs.cosine.cos.Tie as tie

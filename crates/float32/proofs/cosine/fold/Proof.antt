@@ -1,5 +1,4 @@
 -- `float32::cosine::fold` meets its contract: each return is what `cond` picks where the test came out so. Assumes nothing.
-use mathlib.Core.Path.{_≡_, refl}
 use lib.Ieee.{nanBits}
 use Rattle.float32.specs.Cosine.{turn, halfTurn, folded}
 use Rattle.float32.proofs.cosine.fold.Statement.{statement}

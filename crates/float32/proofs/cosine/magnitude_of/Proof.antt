@@ -1,6 +1,6 @@
 -- `float32::cosine::magnitude_of` meets its contract: the float with x's bits without the sign's is x's magnitude (`magnitude-bits`).
 -- Assumes nothing.
-use mathlib.Core.Path.{_≡_, sym, ap, subst, _∙_}
+use mathlib.Core.Path.{sym, ap, subst, _∙_}
 use Prim.Native.Nat.{ℕ, _%_, _^_}
 use lib.Dec.{T}
 use lib.Ieee.{binary32, fits, ofBits}

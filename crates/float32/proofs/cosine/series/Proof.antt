@@ -1,6 +1,6 @@
 -- `float32::cosine::series` meets its contract: the operations are the definition's, in its order. Assumes nothing.
 use mathlib.Core.Path.{refl}
-use lib.Ieee.{ofBits, ofInt, neg, div, mul, add}
+use lib.Ieee.{ofBits, ofInt, neg}
 use Rattle.float32.specs.Cosine.{fraction, horner, polynomial}
 use Rattle.float32.proofs.cosine.series.Statement.{statement}
 use Rattle.float32.proofs.cosine.series.Tie as tie

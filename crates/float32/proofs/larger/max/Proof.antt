@@ -1,8 +1,6 @@
 -- `float32::larger::max` meets its contract. Each return is what `cond` picks where the two tests, `a < b` and `a` is a NaN, are as the code found them.
 -- Assumes nothing.
-use mathlib.Core.Path.{_≡_, refl}
-use mathlib.Core.Bool.{true}
-use lib.Ieee.{isNan, nan, lt}
+use lib.Ieee.{isNan, lt}
 use Rattle.float32.specs.Larger.{larger}
 use Rattle.float32.proofs.Nan.{differs, same}
 use Rattle.float32.proofs.larger.max.Statement.{statement}

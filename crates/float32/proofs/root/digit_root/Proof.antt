@@ -1,15 +1,13 @@
 -- `float32::root::digit_root` meets its contract. The invariant: with k digits still to come, `rootFrom` goes on from r to the root, and r + 2 ^ k is at most 2 ^ 24, so that no square overflows.
 -- The measure is k. Assumes nothing.
 use Prim.Native.Nat.{ℕ, zero, suc, _+_, _-_, _*_, _%_, _^_, _≤_, _<_}
-use native.Mathlib.Nat.{le-refl, le-trans, le-add-right, one-mul, two-pow-succ, mul-le-mul, lt-of-le-of-lt}
+use native.Mathlib.Nat.{le-refl, one-mul, two-pow-succ, mul-le-mul, lt-of-le-of-lt}
 use native.Mathlib.Numerals.{sub-one}
 use native.Mathlib.Omega.{arith}
-use mathlib.Core.Path.{_≡_, refl, sym, ap, subst, _∙_}
-use mathlib.Core.Bool.{Bool, true, false, cond}
+use mathlib.Core.Path.{_≡_, refl, sym, ap, _∙_}
+use mathlib.Core.Bool.{Bool, cond}
 use lib.Dec.{leb, lit<}
 use lib.Pow.{shl-exact}
-use mir.Val.{Fits}
-use mir.Syntax.{w64}
 use borrow.Author.Tests.{le-leb, lt-leb}
 use Rattle.float32.specs.Root.{rootFrom, floorRoot}
 use Rattle.float32.proofs.root.digit_root.Statement.{statement}

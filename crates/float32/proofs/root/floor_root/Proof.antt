@@ -1,9 +1,8 @@
 -- `float32::root::floor_root` meets its contract. What the two tests leave is the whole-number root, of which there is one; a guess that fails them is dropped.
 -- Assumes nothing.
-use native.Mathlib.Omega.{arith}
 use native.Mathlib.Numerals.{add-one}
-use mathlib.Core.Path.{_≡_, subst}
-use Prim.Native.Nat.{ℕ, _+_, _*_, _<_}
+use mathlib.Core.Path.{subst}
+use Prim.Native.Nat.{ℕ, _*_, _<_}
 use borrow.Author.Needs.{needs}
 use Rattle.float32.proofs.root.Squares.{square-fits, root-unique, floor-root}
 use Rattle.float32.proofs.root.floor_root.Statement.{statement}

@@ -3,13 +3,13 @@
 use Prim.Native.Nat.{ℕ, suc, _+_, _-_, _*_, _/_, _%_, _^_, _≤_, _<_}
 use native.Mathlib.Nat.{mul-assoc, lt-of-le-of-lt, lt-of-lt-of-le, le-trans, le-of-eq, mul-le-mul-right, mod-eq-of-lt, mul-lt-mul-of-pos-right, lt-of-not-le, lt-irrefl, mul-pos}
 use native.Mathlib.Omega.{arith}
-use mathlib.Core.Path.{_≡_, refl, sym, ap, subst, _∙_}
+use mathlib.Core.Path.{_≡_, sym, ap, _∙_}
 use lib.Count.{leadingZeros, leading-top}
 use lib.Dec.{lit<}
 use lib.Pow.{pow-add, pow-mono, pow-pos}
 use lib.Ieee.{binary32, ofBits}
 use borrow.Author.Needs.{needs}
-use Rattle.float32.specs.Root.{rootOf, sqrtOf}
+use Rattle.float32.specs.Root.{rootOf}
 use Rattle.float32.proofs.root.Values.{subnormal-value, normal-value, root-of-value}
 use Rattle.float32.proofs.root.root_bits.Statement.{statement}
 use Rattle.float32.proofs.root.root_bits.Tie as tie

@@ -1,9 +1,8 @@
 -- `float32::root::scaled_root` meets its contract: s is 23 or 24 and an even number 2 * k, so the significand is the nearest root of q * 2 ^ 23 or q * 2 ^ 24, moved up by k (`root-moved`), and the bits are those of that float (`made`).
 -- Assumes nothing.
 use Prim.Native.Nat.{ℕ, _+_, _-_, _*_, _/_, _%_, _^_, _≤_, _<_}
-use native.Mathlib.Nat.{le-trans}
 use native.Mathlib.Omega.{arith}
-use mathlib.Core.Path.{_≡_, refl, sym, ap, subst, _∙_}
+use mathlib.Core.Path.{_≡_, refl, sym, ap, _∙_}
 use mathlib.Core.Bool.{false}
 use lib.Ieee.{binary32, ofBits, odd}
 use borrow.Author.Needs.{needs}

@@ -1,5 +1,5 @@
 -- `host::scalars::ff_sqrt` meets its contract: the three calls, one after the other. Assumes nothing.
-use mathlib.Core.Path.{_≡_, ap, _∙_}
+use mathlib.Core.Path.{ap, _∙_}
 use lib.Ieee.{binary32, toBits}
 use Rattle.float32.specs.Root.{sqrtOf}
 use borrow.Author.Needs.{needs}

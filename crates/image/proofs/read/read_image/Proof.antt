@@ -1,11 +1,10 @@
 -- `image::read::read_image` meets its contract. Refused bytes leave the state; what is not refused has an image's length (`accepted`) and is read.
 -- Assumes nothing.
 use native.Mathlib.Omega.{arith}
-use mathlib.Core.Path.{_≡_, sym, ap, _∙_}
+use mathlib.Core.Path.{sym, ap, _∙_}
 use Rattle.ff_state.specs.declared.state.FfState.{FfState}
 use Rattle.image_parts.proofs.Accepted.{accepted}
-use Rattle.image.specs.Read.{stateOf, readImage}
-use Rattle.image.specs.declared.read.ImageRead.{ImageRead}
+use Rattle.image.specs.Read.{readImage}
 use Rattle.image.specs.declared.read.ReadAnswer.the-variants.{Accepted}
 use borrow.Author.Needs.{needs}
 use Rattle.image.proofs.read.read_image.Statement.{statement}

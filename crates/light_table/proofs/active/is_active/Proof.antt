@@ -1,5 +1,4 @@
 -- `light_table::active::is_active` meets its contract: enabled, and of a type that contributes. Assumes nothing.
-use mathlib.Core.Path.{refl}
 use borrow.Author.Tests.{eq-eqb, ne-eqb}
 use borrow.Author.Needs.{needs}
 use Rattle.light_table.proofs.active.is_active.Statement.{statement}

@@ -1,8 +1,8 @@
 -- `light_table::active::kind_mask` meets its contract. The invariant: the mask is that of the lights from i on, so it has a bit for each. The measure is i.
 -- Assumes nothing.
-use Prim.Native.Nat.{ℕ, suc, _-_, _≤_, _<_}
+use Prim.Native.Nat.{_-_, _≤_, _<_}
 use native.Mathlib.Omega.{arith}
-use mathlib.Core.Path.{_≡_, refl, sym, ap, _∙_}
+use mathlib.Core.Path.{_≡_, sym, _∙_}
 use lib.Dec.{eqb}
 use lib.ListN.{length, getD, take, drop, length-map, length-drop, length-take, drop-of-length-le}
 use lib.Seq.{length-take-le}

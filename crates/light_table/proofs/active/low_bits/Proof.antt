@@ -1,6 +1,5 @@
 -- `light_table::active::low_bits` meets its contract: 2 ^ n is at most 256, and one less fits a byte. Assumes nothing.
 use native.Mathlib.Omega.{arith}
-use mathlib.Core.Path.{refl}
 use lib.Pow.{pow-pos, pow-mono}
 use Rattle.light_table.specs.Active.{lowBits}
 use Rattle.light_table.proofs.Words.{one-shl}

@@ -1,5 +1,4 @@
 -- `light_table::active::push_if` meets its contract: its tests are the definition's. Assumes nothing.
-use mathlib.Core.Path.{refl}
 use borrow.Author.Tests.{lt-ltb, le-ltb}
 use Rattle.light_table.specs.Active.{pushed}
 use borrow.Author.Needs.{needs}

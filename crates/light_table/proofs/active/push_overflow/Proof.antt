@@ -1,12 +1,11 @@
 -- `light_table::active::push_overflow` meets its contract. The invariant: what the entries from i on would still push gives the whole. The measure is the entries left.
 -- Assumes nothing.
-use Prim.Native.Nat.{ℕ, _-_, _≤_, _<_}
+use Prim.Native.Nat.{_-_, _≤_, _<_}
 use native.Mathlib.Omega.{arith}
-use mathlib.Core.Path.{_≡_, refl, sym, ap, _∙_}
+use mathlib.Core.Path.{_≡_, refl, _∙_}
 use lib.ListN.{length, take, drop, drop-of-length-le}
 use lib.Seq.{length-take-le, getD-take}
 use Rattle.light_table.proofs.Compaction.{overflow-again}
-use borrow.Author.Needs.{needs}
 use Rattle.light_table.specs.Active.{activeOverflow, pushAll}
 use Rattle.light_table.proofs.active.push_overflow.Statement.{statement}
 use Rattle.light_table.proofs.active.push_overflow.Tie as tie

@@ -1,8 +1,8 @@
 -- `light_table::active::push_slots` meets its contract. The invariant: what the slots from i on would still push gives the whole. The measure is the slots left.
 -- Assumes nothing.
-use Prim.Native.Nat.{ℕ, _-_, _≤_, _<_}
+use Prim.Native.Nat.{_-_, _≤_}
 use native.Mathlib.Omega.{arith}
-use mathlib.Core.Path.{_≡_, refl, sym, ap, _∙_}
+use mathlib.Core.Path.{_≡_, _∙_}
 use lib.ListN.{length, drop, drop-of-length-le}
 use Rattle.light_table.proofs.Compaction.{slots-again}
 use borrow.Author.Needs.{needs}

@@ -1,11 +1,10 @@
 -- `FfState::mark_ff_vs_dirty` meets its contract: its test is the definition's. Assumes nothing.
-use mathlib.Core.Path.{_≡_, refl, ap, _∙_}
+use mathlib.Core.Path.{ap}
 use borrow.Author.Needs.{needs}
 use borrow.Author.Tests.{le-leb, lt-leb}
 use Rattle.ff_state.specs.Sections.{allBits}
-use Rattle.ff_state.specs.Dirty.{dirtied, markFfVsDirty}
+use Rattle.ff_state.specs.Dirty.{markFfVsDirty}
 use Rattle.ff_state.specs.declared.state.FfState.{FfState}
-use Rattle.ff_state.specs.declared.dirty.Marked.{Marked}
 use Rattle.ff_state.specs.declared.dirty.MarkAnswer.the-variants.{Accepted}
 use Rattle.ff_state.proofs.state.FfState.mark_ff_vs_dirty.Statement.{statement}
 use Rattle.ff_state.proofs.state.FfState.mark_ff_vs_dirty.Tie as tie

@@ -1,5 +1,5 @@
 -- `FfState::multiply_transform` meets its contract: as `set_transform`, with the product of what stands there and the argument. Assumes nothing.
-use mathlib.Core.Path.{_≡_, refl, sym, ap, ap₂, _∙_}
+use mathlib.Core.Path.{sym, ap, ap₂, _∙_}
 use Rattle.d3d9_types.specs.declared.matrix.D3DMATRIX.{D3DMATRIX}
 use Rattle.matrix.specs.Product.{matMul}
 use Rattle.ff_state.specs.Dirty.{dirtied}

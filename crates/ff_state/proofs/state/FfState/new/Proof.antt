@@ -1,5 +1,4 @@
 -- `FfState::new` meets its contract: every field is the fresh state's. Assumes nothing.
-use mathlib.Core.Path.{_≡_, refl}
 use lib.Ieee.{ofBits}
 use borrow.Author.Needs.{needs}
 use Rattle.d3d9_types.specs.Matrix.{identity}

@@ -1,5 +1,4 @@
 -- `FfState::set_material` meets its contract: the material is stored and its section marked. Assumes nothing.
-use mathlib.Core.Path.{refl}
 use borrow.Author.Needs.{needs}
 use Rattle.ff_state.specs.Material.{setMaterial}
 use Rattle.ff_state.proofs.state.FfState.set_material.Statement.{statement}

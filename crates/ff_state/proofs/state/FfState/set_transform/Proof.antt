@@ -1,5 +1,5 @@
 -- `FfState::set_transform` meets its contract: an unknown number leaves by the first return, and a place that a number names is in range. Assumes nothing.
-use mathlib.Core.Path.{_≡_, refl, sym, ap, ap₂, _∙_}
+use mathlib.Core.Path.{sym, ap, ap₂, _∙_}
 use borrow.Author.Needs.{needs}
 use Rattle.ff_state.specs.Dirty.{dirtied}
 use Rattle.ff_state.specs.Transforms.{changeAt, setTransform}

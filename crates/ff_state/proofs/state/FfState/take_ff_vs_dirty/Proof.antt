@@ -1,10 +1,9 @@
 -- `FfState::take_ff_vs_dirty` meets its contract: the bits go out and 0 stays. Assumes nothing.
 use Prim.Native.Nat.{ℕ}
-use mathlib.Core.Path.{_≡_, ap}
+use mathlib.Core.Path.{ap}
 use borrow.Author.Needs.{needs}
 use Rattle.ff_state.specs.State.{withFfVsDirty}
 use Rattle.ff_state.specs.Dirty.{takeFfVsDirty}
-use Rattle.ff_state.specs.declared.dirty.Taken.{Taken}
 use Rattle.ff_state.proofs.state.FfState.take_ff_vs_dirty.Statement.{statement}
 use Rattle.ff_state.proofs.state.FfState.take_ff_vs_dirty.Tie as tie
 

@@ -1,5 +1,5 @@
 -- `FfState::transform` meets its contract: an unknown number leaves by the first return, and the place's matrix is the answer. Assumes nothing.
-use mathlib.Core.Path.{_≡_, refl, sym, ap, _∙_}
+use mathlib.Core.Path.{sym, ap, _∙_}
 use Rattle.ff_state.specs.Transforms.{readAt, transformOf}
 use Rattle.ff_state.specs.declared.transforms.TransformRead.the-variants.{Matrix}
 use Rattle.ff_state.proofs.Places.{in-range}

@@ -1,7 +1,6 @@
 -- `FfState::world_palette_used` meets its contract. A u16 and 1 fit 32 bits. Assumes nothing.
 use Prim.Native.Nat.{ℕ, _+_}
-use mathlib.Core.Path.{_≡_, ap}
-use native.Mathlib.Omega.{arith}
+use mathlib.Core.Path.{ap}
 use borrow.Author.Needs.{needs}
 use Rattle.ff_state.specs.Transforms.{worldPaletteUsed}
 use Rattle.ff_state.proofs.state.FfState.world_palette_used.Statement.{statement}

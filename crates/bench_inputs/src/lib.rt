@@ -1,5 +1,4 @@
-// States and keys to pack.
-ghost use Prim.Native.Nat.{_<_};
+// States and a key to pack, for the loops of bench/ alone.
 use d3d9_types::D3DLIGHT_SPOT;
 use d3d9_types::D3DLIGHT9;
 use d3d9_types::D3DMATRIX;
@@ -9,7 +8,6 @@ use d3d9_types::default_light;
 use ff_lights::set_light_at;
 use ff_lights::set_light_enabled_at;
 use ff_state::FfState;
-use packing::PackAnswer;
 use sections::FfVsKey;
 
 fn spread_row(x: f32) -> Row {
@@ -82,19 +80,4 @@ pub fn eight_spots() -> FfState {
     let f = with_spot(e, 5);
     let g = with_spot(f, 6);
     with_spot(g, 7)
-}
-
-// The place of a turn: sixteen in turn, so that no fill's floats are overwritten unread.
-pub fn place(i: u32) -> usize
-    ensures { λ r. ⌜ r < 16 ⌝ }
-{
-    (i % 16) as usize
-}
-
-pub fn one_if_packed(answer: PackAnswer) -> u32 {
-    match answer {
-        PackAnswer::Packed => 1,
-        PackAnswer::WrongLength => 0,
-        PackAnswer::WrongMask => 0,
-    }
 }

@@ -1,0 +1,6 @@
+pub mod Answers
+pub mod Parts
+pub mod Packed
+pub mod Writes
+pub mod Holding
+pub mod Laws

@@ -1,0 +1,36 @@
+// A section written into its part of the mirror.
+ghost use mathlib.Core.Path.{_≡_};
+ghost use mathlib.Core.Bool.{true};
+ghost use lib.ListN.{length};
+ghost use Rattle.ff_state.specs.Sections.{hasSection};
+ghost use Rattle.ff_state.specs.declared.sections.Section.the-variants.{Lights};
+ghost use Rattle.packing.specs.Inputs.{maskAccepted, inputsOf};
+ghost use Rattle.refresh.specs.Written.{writtenSection};
+use ff_state::FfState;
+use ff_state::Section;
+use ff_state::section_bit;
+use packing::pack_section;
+use sections::FfVsKey;
+use sections::NO_TEXTURES;
+use sections::section_shape;
+
+// Whether a word of dirty bits names the section.
+pub fn has_section(bits: u32, section: Section) -> bool
+    ensures { λ r. ⌜ r ≡ hasSection bits section ⌝ }
+{
+    let bit = section_bit(section) as u32;
+    bits / bit % 2 == 1
+}
+
+// The section's packing in its place, if the bits name it.
+pub fn write_section(section: Section, bits: u32, s: FfState, key: FfVsKey, mirror: &mut [f32])
+    requires { ⌜ (length (now mirror) ≡ 4460) × (maskAccepted Lights key (inputsOf s) ≡ true) ⌝ }
+    ensures { λ _. ⌜ now (mirror .exit) ≡ writtenSection section bits s key (now (mirror .entry)) ⌝ }
+{
+    if has_section(bits, section) {
+        let shape = section_shape(section, key, NO_TEXTURES);
+        let first = 4 * shape.first_row as usize;
+        let end = first + 4 * shape.rows as usize;
+        pack_section(section, s, key, &mut mirror[first..end]);
+    }
+}

@@ -1,0 +1,150 @@
+-- `refresh_calls::written::write_section_bytes` meets its contract: the table says where the section's bytes begin and end, its packing fills them, and the part is put back.
+-- Assumes nothing.
+use Prim.Native.Nat.{ℕ, _+_, _-_, _*_}
+use native.Mathlib.Omega.{arith}
+use mathlib.Core.Path.{_≡_, sym, ap, _∙_}
+use lib.ListN.{length, length-map}
+use Rattle.codec.specs.Float.{floatBytes}
+use Rattle.image.proofs.Items.{length-listBytes}
+use Rattle.sections.specs.Key.{noTextures}
+use Rattle.sections.specs.Shape.{firstRow, sectionRows}
+use Rattle.sections.specs.declared.shape.SectionShape.{SectionShape}
+use Rattle.sections.proofs.Tiles.{fits-mirror}
+use Rattle.refresh.proofs.Packed.{Ready, rows-length, accepted}
+use Rattle.refresh_calls.specs.Written.{writtenSectionBytes}
+use Rattle.pack_calls.specs.Fill.{fillBytes}
+use Rattle.pack_calls.proofs.Fills.{fill-fits, front, front-rows}
+use Rattle.refresh_calls.proofs.Parts.{part-length, put-back, filled}
+use Rattle.pack_calls.proofs.Width.{length-floatBytes}
+use borrow.Author.Needs.{needs}
+use Rattle.refresh_calls.proofs.written.write_section_bytes.Statement.{statement}
+use Rattle.refresh_calls.proofs.written.write_section_bytes.Tie as tie
+
+ready : (c : tie.Start) → Ready (c .args .s) (c .args .key)
+ready c =
+    record {
+      count = c .good .1 .1 .1 .0 .1 .1 .1 .1 .1 .1 .1 .1 .0 .1;
+      palette = sym (length-map (c .args .s .«world_palette») _) ∙ c .good .1 .1 .0 .1 .1 .1 .1 .0 .1 .0 .1;
+      mask = c .pre .1;
+    }
+
+start : tie.After-section-shape → tie.Start
+start c = c .before .before .before .before
+
+first-is : (c : tie.After-section-shape) → c .section-shape .result .«first_row» ≡ firstRow (c .before .before .before .before .args .section) (c .before .before .before .before .args .key) noTextures
+first-is c = ap (λ (r : SectionShape). r .«first_row») (c .section-shape .ensures)
+
+rows-is : (c : tie.After-section-shape) → c .section-shape .result .rows ≡ sectionRows (c .before .before .before .before .args .section) (c .before .before .before .before .args .key) noTextures
+rows-is c = ap (λ (r : SectionShape). r .rows) (c .section-shape .ensures)
+
+has-section-requires : tie.Need-has-section-requires
+has-section-requires c κs = search needs
+
+section-shape-requires : tie.Need-section-shape-requires
+section-shape-requires c κs = search needs
+
+cast-n : tie.Need-cast-n
+cast-n c = search needs
+
+mul-n : tie.Need-mul-n
+mul-n c = search needs
+
+cast-first : tie.Need-cast-first
+cast-first c = search needs
+
+mul-first : tie.Need-mul-first
+mul-first c = search needs
+
+mul-end : tie.Need-mul-end
+mul-end c = search needs
+
+add-end : tie.Need-add-end
+add-end c = search needs
+
+mirror-floats-requires : tie.Need-mirror-floats-requires
+mirror-floats-requires c κs = search needs
+
+array-borrow-prefix-floats : tie.Need-array-borrow-prefix-floats
+array-borrow-prefix-floats c =
+    let shape = c .before .before .before in
+    omega (arith, fill-fits _ _ (shape .section-shape .ensures) (ready (shape .before .before .before .before) .count))
+
+slice-aggregate-fill-bytes : tie.Need-slice-aggregate-fill-bytes
+slice-aggregate-fill-bytes c =
+    let shape = c .before .before .before .before in
+    sym (front _ _ (shape .section-shape .ensures) (ready (shape .before .before .before .before) .count) _ (c .before .mirror-floats .ensures))
+
+sub-fill-bytes : tie.Need-sub-fill-bytes
+sub-fill-bytes c = search needs
+
+part-fill-bytes-start : tie.Need-part-fill-bytes-start
+part-fill-bytes-start c = search needs
+
+part-fill-bytes-end : tie.Need-part-fill-bytes-end
+part-fill-bytes-end c =
+    let shape = c .before .before .before .before in
+    let begin = shape .before .before .before .before in
+    omega (arith, first-is shape, rows-is shape, begin .pre .0, fits-mirror (begin .args .key) noTextures (ready begin .count) (begin .args .section))
+
+fill-bytes-requires : tie.Need-fill-bytes-requires
+fill-bytes-requires c κs =
+    let shape = c .before .before .before .before .before in
+    let begin = shape .before .before .before .before in
+    let is = shape .section-shape .ensures in
+    let byte = ready begin .count in
+    let long = c .before .before .mirror-floats .ensures in
+    let f : ℕ = 16 * shape .section-shape .result .«first_row» in
+    let n : ℕ = f + 4 * (4 * shape .section-shape .result .rows) - f in
+    let whole : n ≡ 4 * (4 * shape .section-shape .result .rows) = omega arith in
+    let room = fits-mirror (begin .args .key) noTextures byte (begin .args .section) in (
+      front-rows _ _ is byte _ long,
+      part-length f n (begin .args .mirror .now) (omega (arith, first-is shape, rows-is shape, begin .pre .0, room)) ∙ whole ∙ ap (λ (x : ℕ). 4 * x) (sym (front _ _ is byte _ long)),
+    )
+
+same-length : tie.Need-same-length
+same-length c = search needs
+
+returns : tie.Need-returns
+unfolding writtenSectionBytes
+returns c =
+    let shape = c .before .before .before .before .before .before .before .before .before in
+    let begin = shape .before .before .before .before in
+    let a = begin .args in
+    let k : Ready (a .s) (a .key) = ready begin in
+    let f : ℕ = 16 * shape .section-shape .result .«first_row» in
+    let n : ℕ = f + 4 * (4 * shape .section-shape .result .rows) - f in
+    let whole : n ≡ 16 * sectionRows (a .section) (a .key) noTextures = omega (arith, rows-is shape) in
+    let wide : length (fillBytes (a .section) (a .key) (a .s)) ≡ n =
+    length-listBytes floatBytes 4 length-floatBytes _ ∙ ap (λ (x : ℕ). 4 * x) (rows-length k (a .section)) ∙ omega (arith, whole) in
+    let place : f ≡ 4 * (4 * firstRow (a .section) (a .key) noTextures) = omega (arith, first-is shape) in
+    rw (sym (shape .before .before .has-section .ensures) ∙ shape .before .if1 .taken)
+    (put-back (a .mirror .now) place
+    (filled _ _ _ _ _ (rw (accepted k (a .section))) (c .before .before .before .fill-bytes .ensures))
+    wide)
+
+returns-2 : tie.Need-returns-2
+unfolding writtenSectionBytes
+returns-2 c = rw (sym (c .before .has-section .ensures) ∙ c .if1 .left)
+
+pub write-section-bytes-spec : {M : Type 1} → statement M
+write-section-bytes-spec =
+    tie.close
+    (tie.spec
+    has-section-requires
+    section-shape-requires
+    cast-n
+    mul-n
+    cast-first
+    mul-first
+    mul-end
+    add-end
+    mirror-floats-requires
+    array-borrow-prefix-floats
+    slice-aggregate-fill-bytes
+    sub-fill-bytes
+    part-fill-bytes-start
+    part-fill-bytes-end
+    fill-bytes-requires
+    same-length
+    returns
+    returns-2)

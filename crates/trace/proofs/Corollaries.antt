@@ -1,0 +1,132 @@
+-- What a player can cite. Lists without overwriting leave no section wrong, since none is exempt; after a marking of the five sections and an accepted refresh the whole mirror is right, whatever happened before, since the marking ends every exemption.
+-- Assumes nothing.
+use Prim.Native.Nat.{ℕ}
+use native.Mathlib.Omega.{arith}
+use mathlib.Core.Path.{_≡_, refl, sym, subst, _∙_}
+use mathlib.Core.Logic.{_⊎_, inl, inr, ⊎-elim}
+use mathlib.Core.Bool.{true, false}
+use mathlib.Core.List.{List, [], _∷_, _++_}
+use mathlib.Core.Option.{some}
+use lib.Ieee.{Float}
+use lib.ListN.{length}
+use Rattle.lemmas.proofs.Tests.{never, test}
+use Rattle.ff_state.specs.declared.sections.Section.{Section}
+use Rattle.ff_state.specs.declared.sections.Section.the-variants.{Wv, Proj, Material, Lights, Palette, Tt}
+use Rattle.packing.specs.Inputs.{packedRows}
+use Rattle.sections.specs.declared.key.FfVsKey.{FfVsKey}
+use Rattle.d3d9_model.specs.Operations.{mark}
+use Rattle.packing_laws.specs.Abstract.{abstractRows}
+use Rattle.trace.specs.Calls.{hostMark, Call, own, readIn, refresh, overwrite, host, hostOn, operates, operationOf}
+use Rattle.trace.specs.Calls as Calls
+use Rattle.trace.specs.Count.{countBelow, differing}
+use Rattle.trace.specs.World.{World, start, wrongRows}
+use Rattle.trace.specs.Step.{acceptedKey, ours, step, run}
+use Rattle.trace.specs.Claim.{Admissible, OfFive}
+use Rattle.trace.proofs.Allowed.{marks-five}
+use Rattle.trace.proofs.Always.{always-right}
+use Rattle.trace.proofs.Exempt.{Hits, only-hit, none-first, marking-ends, host-marking-ends}
+
+-- ---- lists without overwriting
+
+abbrev pub Overwrites : Call → Type 0
+Overwrites (own op) = ⊥
+Overwrites (readIn bytes) = ⊥
+Overwrites (refresh k l) = ⊥
+Overwrites (overwrite r x y z t) = Unit {0}
+Overwrites (host h) = ⊥
+Overwrites (hostOn bytes h) = ⊥
+Overwrites Calls.Call.reads = ⊥
+
+abbrev pub NoneOverwrites : List Call → Type 0
+NoneOverwrites [] = Unit {0}
+NoneOverwrites (c ∷ cs) = (Overwrites c → ⊥) × NoneOverwrites cs
+
+hit-overwrites : (c : Call) (w : World) (σ : Section) → Hits c w σ → Overwrites c
+hit-overwrites (own op) w σ h = h
+hit-overwrites (readIn bytes) w σ h = h
+hit-overwrites (refresh k l) w σ h = h
+hit-overwrites (overwrite r x y z t) w σ h = tt
+hit-overwrites (host c) w σ h = h
+hit-overwrites (hostOn bytes c) w σ h = h
+hit-overwrites Calls.Call.reads w σ h = h
+
+none-exempt : (c : Call) (w : World) (σ : Section) → (Hits c w σ → ⊥) → w .track .exempt σ ≡ false → step ours c w .track .exempt σ ≡ false
+none-exempt c w σ none-hits off = go (test (step ours c w .track .exempt σ))
+  where
+    go : (step ours c w .track .exempt σ ≡ true) ⊎ (step ours c w .track .exempt σ ≡ false) → step ours c w .track .exempt σ ≡ false
+    go (inl on) = ⊎-elim (λ (e : w .track .exempt σ ≡ true). never (sym e ∙ off)) (λ (h : Hits c w σ). absurd (none-hits h)) (only-hit ours σ c w on)
+    go (inr e) = e
+
+none-exempt-all : (cs : List Call) (w : World) (σ : Section) → NoneOverwrites cs → w .track .exempt σ ≡ false → run ours cs w .track .exempt σ ≡ false
+unfolding run
+none-exempt-all [] w σ none-hits off = off
+none-exempt-all (c ∷ cs) w σ none-hits off = none-exempt-all cs (step ours c w) σ (none-hits .1) (none-exempt c w σ (λ h. none-hits .0 (hit-overwrites c w σ h)) off)
+
+-- an accepted refresh overwrites nothing
+accepted-none : (c : Call) (w : World) (k : FfVsKey) (σ : Section) → acceptedKey w c ≡ some k → Hits c w σ → ⊥
+unfolding acceptedKey
+accepted-none (own op) w k σ e h = h
+accepted-none (readIn bytes) w k σ e h = h
+accepted-none (refresh j l) w k σ e h = h
+accepted-none (overwrite r x y z t) w k σ e h = let q : _≡_ {A = ℕ} 0 1 = cc in omega arith
+accepted-none (host c) w k σ e h = h
+accepted-none (hostOn bytes c) w k σ e h = h
+accepted-none Calls.Call.reads w k σ e h = h
+
+-- "the count … is zero in all five sections"
+pub without-overwriting : (m : List Float) → length m ≡ 4460 → (calls : List Call) (c : Call) (k : FfVsKey) → NoneOverwrites calls
+    → Admissible ours (start m) (calls ++ c ∷ []) → let w = run ours calls (start m) in acceptedKey w c ≡ some k → (σ : Section) → wrongRows (step ours c w) k σ ≡ 0
+without-overwriting m long calls c k none-hits admissible e σ =
+    let w = run ours calls (start m) in
+    always-right m long calls c k admissible e σ
+    (none-exempt c w σ (accepted-none c w k σ e) (none-exempt-all calls (start m) σ none-hits (none-first ours σ m)))
+
+-- ---- a player that loses its rows
+
+run-last : (calls : List Call) (c : Call) (w : World) → run ours (calls ++ c ∷ []) w ≡ step ours c (run ours calls w)
+unfolding run
+run-last [] c w = refl
+run-last (b ∷ calls) c w = run-last calls c (step ours b w)
+
+tt-right : (w : World) (k : FfVsKey) → wrongRows w k Tt ≡ 0
+unfolding differing abstractRows packedRows countBelow
+tt-right w k = refl
+
+-- a marking of the five sections, by value or by the host
+abbrev pub MarksFive : Call → Type 0
+MarksFive c = (c ≡ own (mark 31)) ⊎ (c ≡ host (operates (hostMark 31)))
+
+marking-clears : (c : Call) → MarksFive c → (w : World) (σ : Section) → OfFive σ → step ours c w .track .exempt σ ≡ false
+unfolding operationOf
+marking-clears c (inl e) w σ f = rw e (marking-ends ours σ (mark 31) w (marks-five (w .abstract) σ f))
+marking-clears c (inr e) w σ f = rw e (host-marking-ends ours σ (hostMark 31) (mark 31) w refl (marks-five (w .abstract) σ f))
+
+-- "a player that loses its rows must recover without a restart": after any admissible calls, a marking and an accepted refresh
+module _ (m : List Float) (long : length m ≡ 4460) (calls : List Call) (marking c : Call) (k : FfVsKey) (five : MarksFive marking) where
+  abbrev lost : World
+  lost = run ours calls (start m)
+
+  abbrev marked : World
+  marked = step ours marking lost
+
+  clear : acceptedKey marked c ≡ some k → (σ : Section) → OfFive σ → step ours c marked .track .exempt σ ≡ false
+  clear e σ f = none-exempt c marked σ (accepted-none c marked k σ e) (marking-clears marking five lost σ f)
+
+  pub marking-recovers : Admissible ours (start m) ((calls ++ marking ∷ []) ++ c ∷ []) → acceptedKey marked c ≡ some k → (σ : Section) → wrongRows (step ours c marked) k σ ≡ 0
+  marking-recovers admissible e σ = by-section σ
+    where
+      is : run ours (calls ++ marking ∷ []) (start m) ≡ marked
+      is = run-last calls marking (start m)
+
+      right : (τ : Section) → step ours c marked .track .exempt τ ≡ false → wrongRows (step ours c marked) k τ ≡ 0
+      right τ off =
+          subst (λ (w : World). acceptedKey w c ≡ some k → step ours c w .track .exempt τ ≡ false → wrongRows (step ours c w) k τ ≡ 0) is
+          (λ q. always-right m long (calls ++ marking ∷ []) c k admissible q τ) e off
+
+      by-section : (τ : Section) → wrongRows (step ours c marked) k τ ≡ 0
+      by-section Wv = right Wv (clear e Wv tt)
+      by-section Proj = right Proj (clear e Proj tt)
+      by-section Material = right Material (clear e Material tt)
+      by-section Lights = right Lights (clear e Lights tt)
+      by-section Palette = right Palette (clear e Palette tt)
+      by-section Tt = tt-right (step ours c marked) k

@@ -1,0 +1,231 @@
+-- What is known of each section between two calls, and that each call keeps it: it is to be written by the next refresh, or the list still has to mark it, or it was hit, or it is right.
+-- Assumes nothing.
+use Prim.Native.Nat.{ℕ, _+_, _*_, _≤_, _<_}
+use native.Mathlib.Omega.{arith}
+use mathlib.Core.Path.{_≡_, refl, sym, ap, subst, _∙_}
+use mathlib.Core.Logic.{_⊎_, inl, inr, ⊎-elim}
+use mathlib.Core.Bool.{Bool, true, false, or-true}
+use mathlib.Core.List.{List}
+use mathlib.Core.Option.{some}
+use lib.Dec.{leb}
+use lib.Ieee.{Float, nan}
+use lib.ListN.{length, set}
+use lib.Seq.{getD-set-other}
+use borrow.Author.Tests.{ltb-false, leb-false}
+use Rattle.lemmas.proofs.Tests.{never, test}
+use Rattle.d3d9_types.specs.declared.matrix.Row.{Row}
+use Rattle.ff_state.specs.Inputs.{sameInputs}
+use Rattle.ff_state.specs.Sections.{sections, hasSection}
+use Rattle.ff_state.specs.Valid.{Valid}
+use Rattle.ff_state.specs.declared.sections.Section.{Section}
+use Rattle.ff_state.specs.declared.sections.Section.the-variants.{Wv, Proj, Material, Lights, Palette, Tt}
+use Rattle.ff_state.specs.declared.state.FfState.{FfState}
+use Rattle.rows.specs.Rows.{floats}
+use Rattle.rows.proofs.Floats.{length-floats}
+use Rattle.sections.specs.Key.{SameShape, noTextures}
+use Rattle.sections.specs.Shape.{sectionShape, sectionRows, firstRow}
+use Rattle.sections.specs.declared.key.FfVsKey.{FfVsKey}
+use Rattle.packing.specs.Inputs.{packedRows}
+use Rattle.packing.proofs.Depends.{same-rows, shape-rows, shape-count}
+use Rattle.d3d9_model.specs.State.{AbstractState}
+use Rattle.d3d9_model.specs.Operations.{Operation, abstractStep}
+use Rattle.agreement.specs.Agrees.{Agrees}
+use Rattle.agreement.specs.Operate.{operate, Admissible}
+use Rattle.agreement.proofs.Kept.{valid-kept, agrees-kept}
+use Rattle.packing_laws.specs.Abstract.{abstractInputs, abstractRows}
+use Rattle.packing_laws.proofs.Agreement.{inputs-agree, rows-agree}
+use Rattle.refresh.specs.Written.{firstFloat, written}
+use Rattle.refresh.proofs.Packed.{Ready, rows-length}
+use Rattle.refresh.proofs.Parts.{Holds}
+use Rattle.refresh.proofs.Holding.{every-in, written-off, written-on}
+use Rattle.trace.specs.Count.{rowsUnder}
+use Rattle.trace.specs.World.{Track, withMirror, trackMarked, trackReadIn, trackRefreshed, isRow, hits, rowSet, trackOverwritten, marks}
+use Rattle.trace.specs.Claim.{OfFive}
+use Rattle.trace.proofs.Marks.{Unmarked, left-clean}
+use Rattle.trace.proofs.Shapes.{same-shape}
+
+-- the floats of a section's packing of the abstract state
+abbrev pub abstractFloats : Section → AbstractState → FfVsKey → List Float
+abstractFloats σ a k = floats (abstractRows σ a k)
+
+-- the section is right under a key
+pub record Right (a : AbstractState) (t : Track) (σ : Section) (k : FfVsKey) : Type 0 where
+  pub last : t .lastKey ≡ some k
+  pub rows : t .rowsAtLastRefresh σ ≡ rowsUnder k a σ
+  pub whole : rowsUnder k a σ ≡ sectionRows σ k noTextures
+  pub holds : Holds (t .mirror) (firstFloat σ k) (abstractFloats σ a k)
+
+-- of a state, the abstract one and what is kept of a mirror
+pub data Tracked (s : FfState) (a : AbstractState) (t : Track) (σ : Section) : Type 0 where
+  dirty : hasSection (s .«ff_vs_dirty») σ ≡ true → Tracked s a t σ
+  unread : t .needsMarking σ ≡ true → Tracked s a t σ
+  hit : t .marked σ ≡ false → t .exempt σ ≡ true → Tracked s a t σ
+  right : t .marked σ ≡ false → (k : FfVsKey) → Right a t σ k → Tracked s a t σ
+
+-- ---- an operation
+
+module _ {s : FfState} {a : AbstractState} (v : Valid s) (g : Agrees s a) (op : Operation) (fit : Admissible op) (t : Track) (σ : Section) where
+  rows-stay : sameInputs σ s (operate s op .state) → (k : FfVsKey) → abstractRows σ a k ≡ abstractRows σ (abstractStep a op) k
+  unfolding abstractRows
+  rows-stay e k =
+      sym (ap (packedRows σ k) (inputs-agree v g))
+      ∙ same-rows s (operate s op .state) k σ e
+      ∙ ap (packedRows σ k) (inputs-agree (valid-kept v op fit) (agrees-kept v g op fit))
+
+  pub operation-tracked : Tracked s a t σ → Tracked (operate s op .state) (abstractStep a op) (trackMarked (marks a op) t) σ
+  unfolding trackMarked
+  operation-tracked was = go (test (hasSection (operate s op .state .«ff_vs_dirty») σ))
+    where
+      pass : Unmarked s a op σ → Tracked s a t σ → Tracked (operate s op .state) (abstractStep a op) (trackMarked (marks a op) t) σ
+      pass u (dirty e) = never (sym e ∙ u .clean)
+      pass u (unread e) = unread (rw (e, u .unmarked))
+      pass u (hit m e) = hit (rw (m, u .unmarked)) (rw (e, u .unmarked))
+      pass u (right m k r) =
+          let e : abstractRows σ a k ≡ abstractRows σ (abstractStep a op) k = rows-stay (u .inputs) k in
+          right (rw (m, u .unmarked)) k
+          (record {
+            last = r .last;
+            rows = r .rows ∙ ap (λ (x : List Row). length x) e;
+            whole = ap (λ (x : List Row). length x) (sym e) ∙ r .whole;
+            holds = subst (λ (x : List Row). Holds (t .mirror) (firstFloat σ k) (floats x)) e (r .holds);
+          })
+
+      go : (hasSection (operate s op .state .«ff_vs_dirty») σ ≡ true) ⊎ (hasSection (operate s op .state .«ff_vs_dirty») σ ≡ false)
+          → Tracked (operate s op .state) (abstractStep a op) (trackMarked (marks a op) t) σ
+      go (inl on) = dirty on
+      go (inr off) = pass (left-clean v g op σ off) was
+
+-- ---- an image that is read in
+
+pub image-tracked : (s : FfState) (a : AbstractState) (t : Track) (σ : Section) → Tracked s a (trackReadIn t) σ
+unfolding trackReadIn
+image-tracked s a t σ = unread refl
+
+-- ---- a row that is overwritten
+
+-- a row that a section did not have is before or behind it
+missed : (r : ℕ) (σ : Section) (k : FfVsKey) (n : ℕ) → isRow r σ k n ≡ false → (r < firstRow σ k noTextures) ⊎ (firstRow σ k noTextures + n ≤ r)
+unfolding isRow
+missed r σ k n e = go (leb (firstRow σ k noTextures) r) refl
+  where
+    go : (t : Bool) → leb (firstRow σ k noTextures) r ≡ t → (r < firstRow σ k noTextures) ⊎ (firstRow σ k noTextures + n ≤ r)
+    go true q = inr (ltb-false r (firstRow σ k noTextures + n) (rw q at e))
+    go false q = inl (leb-false (firstRow σ k noTextures) r q)
+
+module _ (m p : List Float) (r f n : ℕ) (x y z u : Float) (full : length p ≡ 4 * n) (c : (r < f) ⊎ (f + n ≤ r)) where
+  other : (j i : ℕ) → j < length p → i < 4 → 4 * f + j ≡ 4 * r + i → ⊥
+  other j i small few e = ⊎-elim (λ (q : r < f). omega (arith, q, e, few)) (λ (q : f + n ≤ r). omega (arith, q, e, full, small)) c
+
+  overwrite-holds : Holds m (4 * f) p → Holds (rowSet r x y z u m) (4 * f) p
+  unfolding rowSet
+  overwrite-holds h j small =
+      let a = set m (4 * r) x in
+      let b = set a (4 * r + 1) y in
+      let d = set b (4 * r + 2) z in
+      getD-set-other d (4 * r + 3) (4 * f + j) u nan (other j 3 small (omega arith))
+      ∙ getD-set-other b (4 * r + 2) (4 * f + j) z nan (other j 2 small (omega arith))
+      ∙ getD-set-other a (4 * r + 1) (4 * f + j) y nan (other j 1 small (omega arith))
+      ∙ getD-set-other m (4 * r) (4 * f + j) x nan (λ (e : 4 * f + j ≡ 4 * r). other j 0 small (omega arith) (omega (arith, e)))
+      ∙ h j small
+
+pub hits-is : (r : ℕ) (t : Track) (σ : Section) (k : FfVsKey) → t .lastKey ≡ some k → hits r t σ ≡ isRow r σ k (t .rowsAtLastRefresh σ)
+unfolding hits
+hits-is r t σ k e = rw e
+
+pub overwrite-tracked : (s : FfState) (a : AbstractState) (t : Track) (r : ℕ) (x y z u : Float) (σ : Section) → Tracked s a t σ → Tracked s a (trackOverwritten r x y z u t) σ
+unfolding trackOverwritten
+overwrite-tracked s a t r x y z u σ (dirty e) = dirty e
+overwrite-tracked s a t r x y z u σ (unread e) = unread e
+overwrite-tracked s a t r x y z u σ (hit m e) = hit m (rw e)
+overwrite-tracked s a t r x y z u σ (right m k h) = go (test (isRow r σ k (t .rowsAtLastRefresh σ)))
+  where
+    go : (isRow r σ k (t .rowsAtLastRefresh σ) ≡ true) ⊎ (isRow r σ k (t .rowsAtLastRefresh σ) ≡ false) → Tracked s a (trackOverwritten r x y z u t) σ
+    go (inl q) = hit m (rw (hits-is r t σ k (h .last) ∙ q) (or-true (t .exempt σ)))
+    go (inr q) =
+        right m k
+        (record {
+          last = h .last;
+          rows = h .rows;
+          whole = h .whole;
+          holds =
+              overwrite-holds (t .mirror) (abstractFloats σ a k) r (firstRow σ k noTextures) (t .rowsAtLastRefresh σ) x y z u
+              (length-floats (abstractRows σ a k) ∙ ap (λ (n : ℕ). 4 * n) (sym (h .rows)))
+              (missed r σ k (t .rowsAtLastRefresh σ) q) (h .holds);
+        })
+
+-- ---- a refresh that is accepted
+
+first-same : (σ : Section) (j k : FfVsKey) → firstFloat σ j ≡ firstFloat σ k
+unfolding sectionShape
+first-same Wv j k = refl
+first-same Proj j k = refl
+first-same Material j k = refl
+first-same Lights j k = refl
+first-same Palette j k = refl
+first-same Tt j k = refl
+
+-- TT has no rows, so that it is right always
+of-five : (σ : Section) → OfFive σ ⊎ (σ ≡ Tt)
+of-five Wv = inl tt
+of-five Proj = inl tt
+of-five Material = inl tt
+of-five Lights = inl tt
+of-five Palette = inl tt
+of-five Tt = inr refl
+
+empty-holds : (m : List Float) (at : ℕ) (σ : Section) (a : AbstractState) (k : FfVsKey) → σ ≡ Tt → Holds m at (abstractFloats σ a k)
+unfolding abstractRows packedRows floats
+empty-holds m at σ a k e = subst (λ (τ : Section). Holds m at (abstractFloats τ a k)) (sym e) (λ (j : ℕ) (small : j < 0). absurd (omega (arith, small)))
+
+-- the list has marked what it has to before a refresh under the key
+pub record Marked (t : Track) (k : FfVsKey) : Type 0 where
+  pub shape : (j : FfVsKey) → t .lastKey ≡ some j → (SameShape j k → ⊥) → (σ : Section) → OfFive σ → t .marked σ ≡ true
+  pub image : (σ : Section) → OfFive σ → t .needsMarking σ ≡ false
+
+module _ {s : FfState} {a : AbstractState} (v : Valid s) (g : Agrees s a) (t : Track) (k : FfVsKey) (ready : Ready s k) (long : length (t .mirror) ≡ 4460) (kept : Marked t k) (σ : Section) where
+  abbrev after : List Float
+  after = written sections (s .«ff_vs_dirty») s k (t .mirror)
+
+  shape-floats : (j : FfVsKey) → SameShape j k → abstractFloats σ a j ≡ abstractFloats σ a k
+  unfolding abstractRows
+  shape-floats j e = ap floats (shape-rows e (abstractInputs a) σ)
+
+  same-holds : (j : FfVsKey) → SameShape j k → hasSection (s .«ff_vs_dirty») σ ≡ false → Right a t σ j → Holds after (firstFloat σ k) (abstractFloats σ a k)
+  same-holds j e off r =
+      let full : length (abstractFloats σ a j) ≡ 4 * sectionRows σ k noTextures =
+      length-floats (abstractRows σ a j) ∙ ap (λ (n : ℕ). 4 * n) (r .whole ∙ shape-count e σ) in
+      subst (λ (p : List Float). Holds after (firstFloat σ k) p) (shape-floats j e)
+      (written-off ready (s .«ff_vs_dirty») sections σ off (t .mirror) (abstractFloats σ a j) long full
+      (subst (λ (n : ℕ). Holds (t .mirror) n (abstractFloats σ a j)) (first-same σ j k) (r .holds)))
+
+  -- a section is then right, unless it is exempt
+  pub refresh-rights : Tracked s a t σ → (t .exempt σ ≡ true) ⊎ Holds after (firstFloat σ k) (abstractFloats σ a k)
+  refresh-rights was = ⊎-elim (λ (five : OfFive σ). go five (test (hasSection (s .«ff_vs_dirty») σ)) was) (λ (e : σ ≡ Tt). inr (empty-holds after (firstFloat σ k) σ a k e)) (of-five σ)
+    where
+      go : OfFive σ → (hasSection (s .«ff_vs_dirty») σ ≡ true) ⊎ (hasSection (s .«ff_vs_dirty») σ ≡ false) → Tracked s a t σ
+          → (t .exempt σ ≡ true) ⊎ Holds after (firstFloat σ k) (abstractFloats σ a k)
+      go five (inl on) was =
+          inr (subst (λ (p : List Float). Holds after (firstFloat σ k) p) (rows-agree v g σ k) (written-on ready (s .«ff_vs_dirty») sections σ (every-in σ) on (t .mirror) long))
+      go five (inr off) (dirty e) = never (sym e ∙ off)
+      go five (inr off) (unread e) = never (sym e ∙ kept .image σ five)
+      go five (inr off) (hit m e) = inl e
+      go five (inr off) (right m j r) =
+          ⊎-elim
+          (λ (e : SameShape j k). inr (same-holds j e off r))
+          (λ (n : SameShape j k → ⊥). never (sym (kept .shape j (r .last) n σ five) ∙ m))
+          (same-shape j k)
+
+  rows-whole : rowsUnder k a σ ≡ sectionRows σ k noTextures
+  rows-whole =
+      let p = rows-length ready σ in
+      let e = ap (λ (x : List Float). length x) (rows-agree v g σ k) in
+      let n = length-floats (abstractRows σ a k) in
+      omega (arith, p, e, n)
+
+  pub refresh-tracked : Tracked s a t σ → (u : FfState) → Tracked u a (trackRefreshed k (rowsUnder k a) (withMirror after t)) σ
+  unfolding trackRefreshed withMirror
+  refresh-tracked was u =
+      ⊎-elim
+      (λ (e : t .exempt σ ≡ true). hit refl e)
+      (λ (e : Holds after (firstFloat σ k) (abstractFloats σ a k)). right refl k (record { last = refl; rows = refl; whole = rows-whole; holds = e }))
+      (refresh-rights was)

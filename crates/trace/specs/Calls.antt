@@ -1,0 +1,93 @@
+-- The calls of a list. Document 01, 'The list and the count of demand 3'.
+use Prim.Native.Nat.{ℕ}
+use mathlib.Core.Bool.{cond, not}
+use mathlib.Core.List.{List}
+use mathlib.Core.Option.{Option, none, some}
+use lib.Dec.{eqb}
+use lib.Ieee.{Float}
+use lib.ListN.{length}
+use Rattle.codec.specs.Matrix.{matrixAt}
+use Rattle.codec.specs.Material.{materialAt}
+use Rattle.codec.specs.Light.{lightAt}
+use Rattle.ff_state.specs.Sections.{bitOf}
+use Rattle.ff_state.specs.Transforms.{slotOf, placeBits}
+use Rattle.ff_state.specs.declared.sections.Section.the-variants.{Material, Lights}
+use Rattle.ff_state.specs.declared.transforms.Slot.{Slot}
+use Rattle.ff_state.specs.declared.transforms.Slot.the-variants.{At, Unknown}
+use Rattle.sections.specs.declared.key.FfVsKey.{FfVsKey}
+use Rattle.d3d9_model.specs.Operations.{Operation, setTransform, multiplyTransform, setMaterial, setLight, enableLight, mark}
+use Rattle.calls.specs.Answer.{Answer}
+use Rattle.calls.specs.Bits.{ffMarkFfVsDirty}
+use Rattle.calls.specs.Lights.{ffSetLightAt, ffSetLightEnabledAt}
+use Rattle.calls.specs.Materials.{ffSetMaterial}
+use Rattle.calls.specs.Transforms.{ffSetTransform, ffMultiplyTransform}
+
+-- the host's calls that change a state: their items cross as bytes
+pub data HostOperation : Type 0 where
+  hostSetTransform hostMultiplyTransform : ℕ → List ℕ → HostOperation
+  hostSetMaterial : List ℕ → HostOperation
+  hostSetLight : ℕ → List ℕ → HostOperation
+  hostEnableLight : ℕ → ℕ → HostOperation
+  hostMark : ℕ → HostOperation
+
+-- the slice that a refresh is lent: the mirror's, or another
+pub data Lent (A : Type 0) : Type 0 where
+  theMirror another : List A → Lent A
+
+pub data HostCall : Type 0 where
+  operates : HostOperation → HostCall
+  refreshes : FfVsKey → Lent ℕ → HostCall
+  -- reads, row counts, fills
+  reads : HostCall
+
+pub data Call : Type 0 where
+  -- by value
+  own : Operation → Call
+  -- an image is read in
+  readIn : List ℕ → Call
+  refresh : FfVsKey → Lent Float → Call
+  -- "overwritings, which put any floats in any rows": one row; several are several calls
+  overwrite : ℕ → Float → Float → Float → Float → Call
+  -- by the host, on the image that stands for the state, and on another one
+  host : HostCall → Call
+  hostOn : List ℕ → HostCall → Call
+  -- "Reads, row count, writing an image and packing into other buffers change neither and may fall anywhere."
+  reads : Call
+
+unfoldable pub slice : {A : Type 0} → Lent A → List A
+slice (theMirror m) = m
+slice (another m) = m
+
+-- what the host's function gives: its number, and the image afterwards
+unfoldable pub hostAnswer : HostOperation → List ℕ → Answer (List ℕ)
+hostAnswer (hostSetTransform n m) image = ffSetTransform image n m
+hostAnswer (hostMultiplyTransform n m) image = ffMultiplyTransform image n m
+hostAnswer (hostSetMaterial m) image = ffSetMaterial image m
+hostAnswer (hostSetLight i l) image = ffSetLightAt image i l
+hostAnswer (hostEnableLight i on) image = ffSetLightEnabledAt image i on
+hostAnswer (hostMark bits) image = ffMarkFfVsDirty image bits
+
+-- the operation that its bytes say; an item of another length says none
+unfoldable pub ofLength : ℕ → List ℕ → Operation → Option Operation
+ofLength n bytes op = cond (eqb (length bytes) n) (some op) none
+
+unfoldable pub operationOf : HostOperation → Option Operation
+operationOf (hostSetTransform n m) = ofLength 64 m (setTransform n (matrixAt m 0))
+operationOf (hostMultiplyTransform n m) = ofLength 64 m (multiplyTransform n (matrixAt m 0))
+operationOf (hostSetMaterial m) = ofLength 68 m (setMaterial (materialAt m 0))
+operationOf (hostSetLight i l) = ofLength 104 l (setLight i (lightAt l 0))
+operationOf (hostEnableLight i on) = some (enableLight i (not (eqb on 0)))
+operationOf (hostMark bits) = some (mark bits)
+
+-- the sections that an accepted operation marks, as bits
+unfoldable pub slotBits : Slot → ℕ
+slotBits (At p) = placeBits p
+slotBits Unknown = 0
+
+unfoldable pub operationBits : Operation → ℕ
+operationBits (setTransform n m) = slotBits (slotOf n)
+operationBits (multiplyTransform n m) = slotBits (slotOf n)
+operationBits (setMaterial m) = bitOf Material
+operationBits (setLight i l) = bitOf Lights
+operationBits (enableLight i on) = bitOf Lights
+operationBits (mark bits) = bits

@@ -1,0 +1,5 @@
+pub mod Count
+pub mod Calls
+pub mod World
+pub mod Step
+pub mod Claim

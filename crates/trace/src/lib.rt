@@ -1,0 +1,1 @@
+// No code: a claim over every list of calls.
