@@ -11,7 +11,7 @@ use Rattle.d3d9_types.specs.Light.{defaultLight}
 use Rattle.d3d9_types.specs.declared.light.D3DLIGHT9.{D3DLIGHT9}
 use Rattle.d3d9_model.specs.State.{AbstractState, AbstractLight}
 use Rattle.d3d9_model.specs.Lights.{lights?, activeOf, abstractActive}
-use Rattle.light_table.specs.Bits.{hasBit}
+use Rattle.words.specs.Bits.{hasBit}
 use Rattle.light_table.specs.Kinds.{contributes}
 use Rattle.ff_state.specs.Overflow.{used}
 use Rattle.light_table.specs.Active.{slotsFrom, activeOverflow, listed, masksOf}
@@ -19,7 +19,7 @@ use Rattle.ff_state.specs.Active.{lightActiveMask, activeLights, resolveActiveL
 use Rattle.ff_state.specs.Valid.{Valid, slotLight}
 use Rattle.ff_state.specs.declared.state.FfState.{FfState}
 use Rattle.light_table.specs.declared.entry.OverflowLight.{OverflowLight}
-use Rattle.light_table.proofs.Words.{has-and}
+use Rattle.words.proofs.Words.{has-and}
 use Rattle.agreement.specs.Agrees.{Agrees, definedFrom, slotDefined, slotEntry, overflowEntry, stateLights}
 use Rattle.agreement.proofs.Indices.{active-append}
 

@@ -9,14 +9,12 @@ use borrow.Author.Tests.{leb-true}
 use Rattle.lemmas.proofs.Branch.{branch}
 use Rattle.d3d9_model.specs.State.{AbstractState}
 use Rattle.ff_state.specs.State.{withFfVsDirty}
-use Rattle.ff_state.specs.Sections.{allBits}
+use Rattle.sections.specs.Sections.{allBits}
 use Rattle.ff_state.specs.Dirty.{dirtied, markFfVsDirty, markNumber, takeFfVsDirty}
-use Rattle.ff_state.specs.Overflow.{used}
 use Rattle.ff_state.specs.Valid.{Valid}
 use Rattle.ff_state.specs.declared.state.FfState.{FfState}
 use Rattle.ff_state.specs.declared.dirty.Marked.{Marked}
 use Rattle.agreement.specs.Agrees.{Agrees, stateLights}
-use Rattle.agreement.proofs.Frames.{slots-kept, overflow-kept}
 
 dirty-kept : {s : FfState} (d : ℕ) → d ≤ allBits → Valid s → Valid (withFfVsDirty s d)
 dirty-kept d h v =
@@ -27,18 +25,9 @@ dirty-kept d h v =
       overflow-length = v .overflow-length;
       high-water = v .high-water;
       dirty = h;
-      slots = slots-kept (v .slots);
-      overflow = overflow-kept (v .overflow);
-      floats =
-          record {
-            view = v .floats .view;
-            projection = v .floats .projection;
-            palette = v .floats .palette;
-            texture = v .floats .texture;
-            material = v .floats .material;
-            lights = v .floats .lights;
-            overflow = v .floats .overflow;
-          };
+      slots = v .slots;
+      overflow = v .overflow;
+      floats = v .floats;
     }
 
 pub dirtied-valid : {s : FfState} (bits : ℕ) → bits ≤ allBits → Valid s → Valid (dirtied s bits)
@@ -54,13 +43,10 @@ unfolding markFfVsDirty
 marked-valid bits v = branch (λ (r : Marked). Valid (r .state)) (leb bits allBits) _ _ (λ (t : leb bits allBits ≡ true). dirtied-valid bits (leb-true bits allBits t) v) (λ t. v)
 
 bits-agree : {s : FfState} {a : AbstractState} (d : ℕ) → Agrees s a → Agrees (withFfVsDirty s d) a
-unfolding stateLights used
+unfolding stateLights
 bits-agree d g =
     record {
-      view = g .view;
-      projection = g .projection;
-      texture = g .texture;
-      palette = g .palette;
+      matrices = g .matrices;
       material = g .material;
       lights = g .lights;
     }

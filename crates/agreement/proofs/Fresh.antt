@@ -11,11 +11,10 @@ use Rattle.d3d9_types.specs.Material.{defaultMaterial-fits}
 use Rattle.d3d9_model.specs.State.{freshAbstract}
 use Rattle.ff_state.specs.State.{freshState, noMatrix}
 use Rattle.light_table.specs.Entry.{zeroLight, zeroEntry}
-use Rattle.ff_state.specs.Overflow.{used}
 use Rattle.light_table.specs.Overflow.{usedCount, ascending}
 use Rattle.ff_state.specs.Valid.{Valid, SlotsValid, OverflowValid, FloatsValid}
 use Rattle.light_table.specs.declared.entry.OverflowLight.{OverflowLight}
-use Rattle.light_table.proofs.Words.{has-none}
+use Rattle.words.proofs.Words.{has-none}
 use Rattle.agreement.specs.Agrees.{Agrees, definedFrom, stateLights}
 
 zero-light-fits : lightFits zeroLight
@@ -38,7 +37,7 @@ zero-light-fits =
     }
 
 -- every bit of a mask that is 0 is false
-fresh-slots : SlotsValid freshState
+fresh-slots : let s = freshState in SlotsValid (s .lights) (s .«light_enabled») (s .«light_set_mask») (s .«light_defined_mask») (s .«light_directional_mask») (s .«light_spot_mask»)
 unfolding freshState
 fresh-slots =
     record {
@@ -54,8 +53,8 @@ fresh-slots =
       spot-mask = λ i h. rw (has-none i);
     }
 
-fresh-overflow : OverflowValid freshState
-unfolding freshState used usedCount ascending
+fresh-overflow : OverflowValid (freshState .«overflow_lights») (freshState .«overflow_count»)
+unfolding freshState usedCount ascending
 fresh-overflow =
     record {
       count = omega arith;
@@ -65,7 +64,7 @@ fresh-overflow =
       unused = refl;
     }
 
-fresh-floats : FloatsValid freshState
+fresh-floats : let s = freshState in FloatsValid (s .view) (s .projection) (s .«world_palette») (s .«texture_transforms») (s .material) (s .lights) (s .«overflow_lights»)
 unfolding freshState zeroEntry
 fresh-floats =
     record {
@@ -94,17 +93,20 @@ fresh-valid =
     }
 
 no-lights : stateLights freshState ≡ freshAbstract .lights
-unfolding stateLights freshState freshAbstract definedFrom used usedCount
+unfolding stateLights freshState freshAbstract definedFrom usedCount
 no-lights = simp has-none
 
 pub fresh-agrees : Agrees freshState freshAbstract
 unfolding freshState freshAbstract
 fresh-agrees =
     record {
-      view = refl;
-      projection = refl;
-      texture = λ i h. getD-replicate 8 i identity noMatrix h;
-      palette = λ i h. getD-replicate 256 i identity noMatrix h;
+      matrices =
+          record {
+            view = refl;
+            projection = refl;
+            texture = λ i h. getD-replicate 8 i identity noMatrix h;
+            palette = λ i h. getD-replicate 256 i identity noMatrix h;
+          };
       material = refl;
       lights = no-lights;
     }

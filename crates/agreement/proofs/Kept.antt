@@ -10,14 +10,14 @@ use Rattle.ff_state.specs.Valid.{Valid}
 use Rattle.ff_state.specs.declared.state.FfState.{FfState}
 use Rattle.ff_state.proofs.Room.{set-answer, enable-answer}
 use Rattle.agreement.specs.Agrees.{Agrees}
-use Rattle.agreement.specs.Operate.{operate, Admissible}
+use Rattle.ff_state.specs.Operate.{operate, OperationFits}
 use Rattle.agreement.proofs.Dirty.{marked-valid, marked-agrees, mark-number}
 use Rattle.agreement.proofs.Transforms.{set-number, set-valid, set-agrees, multiply-number, multiply-valid, multiply-agrees}
 use Rattle.agreement.proofs.Material.{material-valid, material-agrees}
 use Rattle.agreement.proofs.Lights.{full-is}
 use Rattle.agreement.proofs.LightCalls.{set-light-valid, set-light-agrees, enable-light-valid, enable-light-agrees}
 
-pub valid-kept : {s : FfState} → Valid s → (op : Operation) → Admissible op → Valid (operate s op .state)
+pub valid-kept : {s : FfState} → Valid s → (op : Operation) → OperationFits op → Valid (operate s op .state)
 unfolding operate
 valid-kept v (setTransform n m) h = set-valid v n m h
 valid-kept v (multiplyTransform n m) h = multiply-valid v n m
@@ -52,7 +52,7 @@ mark-step : (a : AbstractState) (bits : ℕ) → abstractStep a (mark bits) ≡ 
 unfolding abstractStep abstractRefusal abstractChange
 mark-step a bits = either-way (eqb (cond (leb bits 63) 0 7) 0) a
 
-pub agrees-kept : {s : FfState} {a : AbstractState} → Valid s → Agrees s a → (op : Operation) → Admissible op → Agrees (operate s op .state) (abstractStep a op)
+pub agrees-kept : {s : FfState} {a : AbstractState} → Valid s → Agrees s a → (op : Operation) → OperationFits op → Agrees (operate s op .state) (abstractStep a op)
 unfolding operate
 agrees-kept v g (setTransform n m) h = set-agrees v n m g
 agrees-kept v g (multiplyTransform n m) h = multiply-agrees v g n m

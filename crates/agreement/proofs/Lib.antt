@@ -1,5 +1,4 @@
 pub mod Lists
-pub mod Frames
 pub mod Dirty
 pub mod Fresh
 pub mod Numbers
@@ -15,4 +14,5 @@ pub mod Lights
 pub mod LightCalls
 pub mod LightReads
 pub mod Active
+pub mod Refused
 pub mod Kept

@@ -26,9 +26,8 @@ use Rattle.light_table.specs.declared.entry.OverflowLight.{OverflowLight}
 use Rattle.ff_state.specs.declared.lights.LightChanged.{LightChanged}
 use Rattle.ff_state.specs.declared.lights.LightAnswer.the-variants.{Full}
 use Rattle.light_table.proofs.Sorted.{putIn}
-use Rattle.light_table.proofs.Words.{flag-small-cond}
+use Rattle.words.proofs.Words.{flag-small-cond}
 use Rattle.agreement.specs.Agrees.{Agrees, definedFrom, slotDefined, slotEntry, overflowEntry, stateLights}
-use Rattle.agreement.proofs.Frames.{lights-agree}
 use Rattle.agreement.proofs.Dirty.{dirtied-valid, dirtied-agrees}
 use Rattle.agreement.proofs.Indices.{changed-below}
 use Rattle.agreement.proofs.Defined.{defined-below}
@@ -120,19 +119,21 @@ module _ {s : FfState} (v : Valid s) (i : ℕ) (t : FfState) (change : OverflowL
       entry-agrees high h =
           let at = found s i .at in
           let e = foundEntry s i in
-          lights-agree g
-          (overflow-changed high (set (s .«overflow_lights») at (change e)) (s .«overflow_count»)
+          let lights =
+          overflow-changed high (set (s .«overflow_lights») at (change e)) (s .«overflow_count»)
           (replaced-used v i (change e) (own e (entry-index v i h)) (fits e (entry-fits v i h)) h
           ∙ ap (λ (x : OverflowLight). set (used s) (found s i .at) (change x)) (sym (entry-used v i h))
           ∙ ap changedUsed (sym h))
-          ∙ ap (changedAt i change′ new) (g .lights))
+          ∙ ap (changedAt i change′ new) (g .lights) in
+          record { matrices = g .matrices; material = g .material; lights = lights }
 
       grown-agrees : 8 ≤ i → found s i .stored ≡ false → usedCount (s .«overflow_count») < 56 → Agrees (withNewEntry s i made) changed
       grown-agrees high h m =
-          lights-agree g
-          (overflow-changed high (insertedAt (found s i .at) made (s .«overflow_lights»)) (usedCount (s .«overflow_count») + 1)
+          let lights =
+          overflow-changed high (insertedAt (found s i .at) made (s .«overflow_lights»)) (usedCount (s .«overflow_count») + 1)
           (inserted-is v i made made-own made-fits h high m ∙ ap changedUsed (sym h))
-          ∙ ap (changedAt i change′ new) (g .lights))
+          ∙ ap (changedAt i change′ new) (g .lights) in
+          record { matrices = g .matrices; material = g .material; lights = lights }
 
       call-agrees : Agrees (call s i t change made .state) (cond (eqb (cond (full a i) 3 0) 0) changed a)
       call-agrees =

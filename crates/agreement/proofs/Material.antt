@@ -6,14 +6,12 @@ use Rattle.d3d9_types.specs.declared.material.D3DMATERIAL9.{D3DMATERIAL9}
 use Rattle.d3d9_model.specs.State.{AbstractState}
 use Rattle.d3d9_model.specs.Operations.{abstractRefusal, abstractChange, abstractStep}
 use Rattle.d3d9_model.specs.Operations as Operations
-use Rattle.ff_state.specs.Sections.{bitOf}
+use Rattle.sections.specs.Sections.{bitOf}
 use Rattle.ff_state.specs.Material.{setMaterial}
-use Rattle.ff_state.specs.Overflow.{used}
 use Rattle.ff_state.specs.Valid.{Valid}
-use Rattle.ff_state.specs.declared.sections.Section.the-variants as Sections
+use Rattle.sections.specs.declared.sections.Section.the-variants as Sections
 use Rattle.ff_state.specs.declared.state.FfState.{FfState}
 use Rattle.agreement.specs.Agrees.{Agrees, stateLights}
-use Rattle.agreement.proofs.Frames.{slots-kept, overflow-kept}
 use Rattle.agreement.proofs.Dirty.{dirtied-valid, dirtied-agrees}
 
 module _ {s : FfState} (m : D3DMATERIAL9) where
@@ -28,8 +26,8 @@ module _ {s : FfState} (m : D3DMATERIAL9) where
         overflow-length = v .overflow-length;
         high-water = v .high-water;
         dirty = v .dirty;
-        slots = slots-kept (v .slots);
-        overflow = overflow-kept (v .overflow);
+        slots = v .slots;
+        overflow = v .overflow;
         floats =
             record {
               view = v .floats .view;
@@ -43,7 +41,7 @@ module _ {s : FfState} (m : D3DMATERIAL9) where
       })
 
   pub material-agrees : {a : AbstractState} → Agrees s a → Agrees (setMaterial s m) (abstractStep a (Operations.setMaterial m))
-  unfolding setMaterial stateLights used abstractStep abstractRefusal abstractChange
+  unfolding setMaterial stateLights abstractStep abstractRefusal abstractChange
   material-agrees g =
       dirtied-agrees (bitOf Sections.Material)
-      (record { view = g .view; projection = g .projection; texture = g .texture; palette = g .palette; material = refl; lights = g .lights })
+      (record { matrices = g .matrices; material = refl; lights = g .lights })

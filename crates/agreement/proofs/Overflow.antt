@@ -18,7 +18,6 @@ use Rattle.ff_state.specs.Valid.{Valid, OverflowValid}
 use Rattle.ff_state.specs.declared.state.FfState.{FfState}
 use Rattle.light_table.specs.declared.entry.OverflowLight.{OverflowLight}
 use Rattle.light_table.proofs.Sorted.{bound-most, stored-below, stored-index, length-inserted, putIn, replaced-ascending, inserted-ascending, inserted-used, inserted-zeros}
-use Rattle.agreement.proofs.Frames.{slots-kept}
 use Rattle.agreement.proofs.Lists.{set-has, put-has}
 
 -- what a program can hold of an entry
@@ -40,7 +39,7 @@ foundEntry s i = entryAt s (found s i .at)
 module _ {s : FfState} (v : Valid s) where
   -- a valid state, with another table
   table-valid : {es : List OverflowLight} {n : ℕ} → length es ≡ 56 → ((k : ℕ) → k < 56 → lightFits (getD es k zeroEntry .light))
-      → OverflowValid (withOverflowCount (withOverflowLights s es) n) → Valid (withOverflowCount (withOverflowLights s es) n)
+      → OverflowValid es n → Valid (withOverflowCount (withOverflowLights s es) n)
   table-valid long fits h =
       record {
         palette-length = v .palette-length;
@@ -49,7 +48,7 @@ module _ {s : FfState} (v : Valid s) where
         overflow-length = long;
         high-water = v .high-water;
         dirty = v .dirty;
-        slots = slots-kept (v .slots);
+        slots = v .slots;
         overflow = h;
         floats =
             record {
@@ -68,7 +67,6 @@ module _ {s : FfState} (v : Valid s) where
   count-used = min-eq-left (v .overflow .count)
 
   pub length-used : length (used s) ≡ usedCount (s .«overflow_count»)
-  unfolding used
   length-used = length-take-le (usedCount (s .«overflow_count»)) (s .«overflow_lights») (omega (arith, count-used, v .overflow-length, v .overflow .count))
 
   -- ---- the place of an index, and the entry there
@@ -83,7 +81,6 @@ module _ {s : FfState} (v : Valid s) where
     place-used = omega (arith, stored-below (used s) i stored, length-used)
 
     pub entry-used : getD (used s) (found s i .at) zeroEntry ≡ foundEntry s i
-    unfolding used
     entry-used = getD-take (usedCount (s .«overflow_count»)) (s .«overflow_lights») (found s i .at) zeroEntry place-used
 
     pub entry-index : foundEntry s i .index ≡ i
@@ -104,7 +101,6 @@ module _ {s : FfState} (v : Valid s) where
 
     module _ (stored : found s i .stored ≡ true) where
       pub replaced-used : used (withEntry s i e) ≡ set (used s) (found s i .at) e
-      unfolding used
       replaced-used = take-set-lt (usedCount (s .«overflow_count»)) (s .«overflow_lights») (found s i .at) e (place-used i stored)
 
       replaced-sorted : ascending 8 (used (withEntry s i e)) ≡ true
@@ -135,7 +131,6 @@ module _ {s : FfState} (v : Valid s) where
       new-count = min-eq-left (omega arith) ∙ add-one (usedCount (s .«overflow_count»))
 
       pub inserted-is : used (withNewEntry s i e) ≡ putIn (found s i .at) e (used s)
-      unfolding used
       inserted-is =
           ap (λ (k : ℕ). take k (insertedAt (found s i .at) e (s .«overflow_lights»))) new-count
           ∙ inserted-used (s .«overflow_lights») (usedCount (s .«overflow_count»)) (found s i .at) e (v .overflow-length) room (place-most i)

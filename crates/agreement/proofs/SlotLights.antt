@@ -12,15 +12,14 @@ use Rattle.d3d9_types.specs.Light.{defaultLight}
 use Rattle.d3d9_types.specs.declared.light.D3DLIGHT9.{D3DLIGHT9}
 use Rattle.d3d9_model.specs.State.{AbstractState, AbstractLight, withLights}
 use Rattle.d3d9_model.specs.Lights.{lightAt, changedAt, lightSet, lightEnabled}
-use Rattle.light_table.specs.Bits.{hasBit, withBit}
+use Rattle.words.specs.Bits.{hasBit, withBit}
 use Rattle.ff_state.specs.State.{withLightEnabled}
 use Rattle.ff_state.specs.Slots.{setSlot, defineSlot, enableSlot}
 use Rattle.ff_state.specs.Overflow.{used}
 use Rattle.ff_state.specs.Valid.{Valid, slotLight}
 use Rattle.ff_state.specs.declared.state.FfState.{FfState}
-use Rattle.light_table.proofs.Words.{has-with-bit}
+use Rattle.words.proofs.Words.{has-with-bit}
 use Rattle.agreement.specs.Agrees.{Agrees, slotDefined, slotEntry, overflowEntry, stateLights}
-use Rattle.agreement.proofs.Frames.{lights-agree}
 use Rattle.agreement.proofs.Lists.{getD-set}
 use Rattle.agreement.proofs.Defined.{changed-defined}
 use Rattle.agreement.proofs.Entries.{entries-above}
@@ -70,7 +69,7 @@ module _ {s : FfState} (v : Valid s) (i : ℕ) (low : i < 8) where
       go false e = refl
 
   set-slot-lights : (l : D3DLIGHT9) → stateLights (setSlot s i l) ≡ lightSet i l (stateLights s)
-  unfolding setSlot lightSet used
+  unfolding setSlot lightSet
   set-slot-lights l =
       slot-changed v (setSlot s i l) i low (hasBit (s .«light_enabled») i) l
       (λ k. has-with-bit (s .«light_defined_mask») i k true)
@@ -83,7 +82,7 @@ module _ {s : FfState} (v : Valid s) (i : ℕ) (low : i < 8) where
       (λ (t : hasBit (s .«light_defined_mask») i ≡ false). ap (λ (b : Bool). lightAt i b l) (off-undefined t)))
 
   defined-lights : (on : Bool) → hasBit (s .«light_defined_mask») i ≡ true → stateLights (withLightEnabled s (withBit (s .«light_enabled») i on)) ≡ lightEnabled i on (stateLights s)
-  unfolding lightEnabled used
+  unfolding lightEnabled
   defined-lights on e =
       slot-changed v (withLightEnabled s (withBit (s .«light_enabled») i on)) i low on (slotLight s i)
       (given-at (hasBit (s .«light_defined_mask»)) i true e)
@@ -94,7 +93,7 @@ module _ {s : FfState} (v : Valid s) (i : ℕ) (low : i < 8) where
 
   undefined-lights : (on : Bool) → hasBit (s .«light_defined_mask») i ≡ false
       → stateLights (withLightEnabled (setSlot s i defaultLight) (withBit (s .«light_enabled») i on)) ≡ lightEnabled i on (stateLights s)
-  unfolding setSlot lightEnabled used
+  unfolding setSlot lightEnabled
   undefined-lights on e =
       slot-changed v (withLightEnabled (setSlot s i defaultLight) (withBit (s .«light_enabled») i on)) i low on defaultLight
       (λ k. has-with-bit (s .«light_defined_mask») i k true)
@@ -106,12 +105,12 @@ module _ {s : FfState} (v : Valid s) (i : ℕ) (low : i < 8) where
   module _ {a : AbstractState} (g : Agrees s a) where
     pub set-slot-agrees : (l : D3DLIGHT9) → Agrees (setSlot s i l) (withLights a (lightSet i l (a .lights)))
     unfolding setSlot
-    set-slot-agrees l = lights-agree g (set-slot-lights l ∙ ap (lightSet i l) (g .lights))
+    set-slot-agrees l = record { matrices = g .matrices; material = g .material; lights = set-slot-lights l ∙ ap (lightSet i l) (g .lights) }
 
     pub enable-slot-agrees : (on : Bool) → Agrees (enableSlot s i on) (withLights a (lightEnabled i on (a .lights)))
     unfolding enableSlot defineSlot setSlot
     enable-slot-agrees on =
         branch (λ (t : FfState). Agrees (withLightEnabled t (withBit (t .«light_enabled») i on)) (withLights a (lightEnabled i on (a .lights))))
         (hasBit (s .«light_defined_mask») i) s (setSlot s i defaultLight)
-        (λ e. lights-agree g (defined-lights on e ∙ ap (lightEnabled i on) (g .lights)))
-        (λ e. lights-agree g (undefined-lights on e ∙ ap (lightEnabled i on) (g .lights)))
+        (λ e. record { matrices = g .matrices; material = g .material; lights = defined-lights on e ∙ ap (lightEnabled i on) (g .lights) })
+        (λ e. record { matrices = g .matrices; material = g .material; lights = undefined-lights on e ∙ ap (lightEnabled i on) (g .lights) })

@@ -10,14 +10,13 @@ use borrow.Author.Tests.{eqb-true, eq-eqb}
 use Rattle.lemmas.proofs.Branch.{branch}
 use Rattle.d3d9_types.specs.Light.{defaultLight, lightFits, defaultLight-fits}
 use Rattle.d3d9_types.specs.declared.light.D3DLIGHT9.{D3DLIGHT9}
-use Rattle.light_table.specs.Bits.{hasBit, withBit}
+use Rattle.words.specs.Bits.{hasBit, withBit}
 use Rattle.ff_state.specs.State.{withLights, withLightEnabled, withLightSetMask, withLightDefinedMask, withLightDirectionalMask, withLightSpotMask}
 use Rattle.light_table.specs.Kinds.{contributes}
 use Rattle.ff_state.specs.Slots.{setSlot, defineSlot, enableSlot}
 use Rattle.ff_state.specs.Valid.{Valid, SlotsValid}
 use Rattle.ff_state.specs.declared.state.FfState.{FfState}
-use Rattle.light_table.proofs.Words.{has-with-bit, with-bit-lt}
-use Rattle.agreement.proofs.Frames.{overflow-kept}
+use Rattle.words.proofs.Words.{has-with-bit, with-bit-lt}
 use Rattle.agreement.proofs.Lists.{getD-set, set-has}
 
 -- ---- one bit of a mask, and the light beside it
@@ -50,7 +49,7 @@ on-now w i b = has-with-bit w i i b ∙ ap (λ (t : Bool). cond t b (hasBit w i)
 module _ {s : FfState} (v : Valid s) where
   -- a valid state, with other slots
   slots-valid : {ls : List D3DLIGHT9} {e st de di sp : ℕ} → length ls ≡ 8 → ((j : ℕ) → j < 8 → lightFits (getD ls j defaultLight))
-      → SlotsValid (withLightSpotMask (withLightDirectionalMask (withLightSetMask (withLightDefinedMask (withLightEnabled (withLights s ls) e) de) st) di) sp)
+      → SlotsValid ls e st de di sp
       → Valid (withLightSpotMask (withLightDirectionalMask (withLightSetMask (withLightDefinedMask (withLightEnabled (withLights s ls) e) de) st) di) sp)
   slots-valid long fits h =
       record {
@@ -61,7 +60,7 @@ module _ {s : FfState} (v : Valid s) where
         high-water = v .high-water;
         dirty = v .dirty;
         slots = h;
-        overflow = overflow-kept (v .overflow);
+        overflow = v .overflow;
         floats =
             record {
               view = v .floats .view;

@@ -17,17 +17,15 @@ use Rattle.d3d9_model.specs.State.{AbstractState, withMatrix}
 use Rattle.d3d9_model.specs.Operations.{known, abstractRefusal, abstractChange, abstractStep}
 use Rattle.d3d9_model.specs.Operations as Operations
 use Rattle.ff_state.specs.State.{noMatrix, withView, withProjection, withWorldPalette, withWorldPaletteHighWater, withTextureTransforms}
-use Rattle.ff_state.specs.Sections.{bitsOf, allBits}
-use Rattle.ff_state.specs.Overflow.{used}
+use Rattle.sections.specs.Sections.{bitsOf, allBits}
 use Rattle.ff_state.specs.Transforms.{slotOf, InRange, placeSections, placeBits, matrixAt, placed, changeAt, setTransform, multiplyTransform, readAt, transformOf, transformNumber}
 use Rattle.ff_state.specs.Valid.{Valid}
 use Rattle.ff_state.specs.declared.state.FfState.{FfState}
-use Rattle.ff_state.specs.declared.sections.Section.{Section}
+use Rattle.sections.specs.declared.sections.Section.{Section}
 use Rattle.ff_state.specs.declared.transforms.Place.{Place}
 use Rattle.ff_state.specs.declared.transforms.Place.the-variants.{View, Projection, Texture, Palette}
 use Rattle.ff_state.specs.declared.transforms.TransformRead.the-variants as Reads
 use Rattle.agreement.specs.Agrees.{Agrees, stateLights}
-use Rattle.agreement.proofs.Frames.{slots-kept, overflow-kept}
 use Rattle.agreement.proofs.Dirty.{dirtied-valid, dirtied-agrees}
 use Rattle.agreement.proofs.Lists.{getD-set, set-has}
 use Rattle.agreement.proofs.Numbers.{number, Named, place, no-place, named}
@@ -47,8 +45,8 @@ module _ {s : FfState} (v : Valid s) where
         overflow-length = v .overflow-length;
         high-water = lh;
         dirty = v .dirty;
-        slots = slots-kept (v .slots);
-        overflow = overflow-kept (v .overflow);
+        slots = v .slots;
+        overflow = v .overflow;
         floats =
             record {
               view = fp;
@@ -98,40 +96,52 @@ module _ {s : FfState} {a : AbstractState} (v : Valid s) (g : Agrees s a) (m : D
       (λ (t : eqb i j ≡ false). old j k ∙ sym (missed (b + j) n (λ q. eqb-false i j t (omega arith))))
 
   placed-agrees : (p : Place) (n : ℕ) → n ≡ number p → InRange p → Agrees (placed s p m) (withMatrix a n m)
-  unfolding placed stateLights used
+  unfolding placed stateLights
   placed-agrees View n e h =
       record {
-        view = sym (hit 2 n (sym e));
-        projection = g .projection ∙ sym (missed 3 n (λ q. omega arith));
-        texture = λ j k. g .texture j k ∙ sym (missed (16 + j) n (λ q. omega arith));
-        palette = λ j k. g .palette j k ∙ sym (missed (256 + j) n (λ q. omega arith));
+        matrices =
+            record {
+              view = sym (hit 2 n (sym e));
+              projection = g .matrices .projection ∙ sym (missed 3 n (λ q. omega arith));
+              texture = λ j k. g .matrices .texture j k ∙ sym (missed (16 + j) n (λ q. omega arith));
+              palette = λ j k. g .matrices .palette j k ∙ sym (missed (256 + j) n (λ q. omega arith));
+            };
         material = g .material;
         lights = g .lights;
       }
   placed-agrees Projection n e h =
       record {
-        view = g .view ∙ sym (missed 2 n (λ q. omega arith));
-        projection = sym (hit 3 n (sym e));
-        texture = λ j k. g .texture j k ∙ sym (missed (16 + j) n (λ q. omega arith));
-        palette = λ j k. g .palette j k ∙ sym (missed (256 + j) n (λ q. omega arith));
+        matrices =
+            record {
+              view = g .matrices .view ∙ sym (missed 2 n (λ q. omega arith));
+              projection = sym (hit 3 n (sym e));
+              texture = λ j k. g .matrices .texture j k ∙ sym (missed (16 + j) n (λ q. omega arith));
+              palette = λ j k. g .matrices .palette j k ∙ sym (missed (256 + j) n (λ q. omega arith));
+            };
         material = g .material;
         lights = g .lights;
       }
   placed-agrees (Texture i) n e h =
       record {
-        view = g .view ∙ sym (missed 2 n (λ q. omega arith));
-        projection = g .projection ∙ sym (missed 3 n (λ q. omega arith));
-        texture = stored (s .«texture_transforms») 16 8 i n e h (v .texture-length) (g .texture);
-        palette = λ j k. g .palette j k ∙ sym (missed (256 + j) n (λ q. omega arith));
+        matrices =
+            record {
+              view = g .matrices .view ∙ sym (missed 2 n (λ q. omega arith));
+              projection = g .matrices .projection ∙ sym (missed 3 n (λ q. omega arith));
+              texture = stored (s .«texture_transforms») 16 8 i n e h (v .texture-length) (g .matrices .texture);
+              palette = λ j k. g .matrices .palette j k ∙ sym (missed (256 + j) n (λ q. omega arith));
+            };
         material = g .material;
         lights = g .lights;
       }
   placed-agrees (Palette i) n e h =
       record {
-        view = g .view ∙ sym (missed 2 n (λ q. omega arith));
-        projection = g .projection ∙ sym (missed 3 n (λ q. omega arith));
-        texture = λ j k. g .texture j k ∙ sym (missed (16 + j) n (λ q. omega arith));
-        palette = stored (s .«world_palette») 256 256 i n e h (v .palette-length) (g .palette);
+        matrices =
+            record {
+              view = g .matrices .view ∙ sym (missed 2 n (λ q. omega arith));
+              projection = g .matrices .projection ∙ sym (missed 3 n (λ q. omega arith));
+              texture = λ j k. g .matrices .texture j k ∙ sym (missed (16 + j) n (λ q. omega arith));
+              palette = stored (s .«world_palette») 256 256 i n e h (v .palette-length) (g .matrices .palette);
+            };
         material = g .material;
         lights = g .lights;
       }
@@ -189,10 +199,10 @@ module _ {s : FfState} (v : Valid s) (n : ℕ) where
 
 matrix-at : {s : FfState} {a : AbstractState} → Agrees s a → (p : Place) → InRange p → matrixAt s p ≡ a .matrix (number p)
 unfolding matrixAt
-matrix-at g View h = g .view
-matrix-at g Projection h = g .projection
-matrix-at g (Texture i) h = g .texture i h
-matrix-at g (Palette i) h = g .palette i h
+matrix-at g View h = g .matrices .view
+matrix-at g Projection h = g .matrices .projection
+matrix-at g (Texture i) h = g .matrices .texture i h
+matrix-at g (Palette i) h = g .matrices .palette i h
 
 module _ {s : FfState} {a : AbstractState} (v : Valid s) (g : Agrees s a) (n : ℕ) where
   pub multiply-agrees : (m : D3DMATRIX) → Agrees (multiplyTransform s n m .state) (abstractStep a (Operations.multiplyTransform n m))

@@ -5,10 +5,11 @@ use mathlib.Core.Bool.{Bool, cond, not}
 use mathlib.Core.List.{List, [], _∷_, _++_, map}
 use lib.Dec.{eqb}
 use lib.ListN.{getD}
+use Rattle.d3d9_types.specs.declared.matrix.D3DMATRIX.{D3DMATRIX}
 use Rattle.d3d9_model.specs.State.{AbstractState, AbstractLight}
 use Rattle.d3d9_model.specs.Lights.{lightAt}
 use Rattle.ff_state.specs.State.{noMatrix}
-use Rattle.light_table.specs.Bits.{hasBit}
+use Rattle.words.specs.Bits.{hasBit}
 use Rattle.ff_state.specs.Overflow.{used}
 use Rattle.ff_state.specs.Valid.{slotLight}
 use Rattle.ff_state.specs.declared.state.FfState.{FfState}
@@ -32,10 +33,14 @@ overflowEntry e = lightAt (e .index) (not (eqb (e .enabled) 0)) (e .light)
 unfoldable pub stateLights : FfState → List AbstractLight
 stateLights s = definedFrom (slotDefined s) (slotEntry s) 0 8 ++ map overflowEntry (used s)
 
+-- by state number: over the matrices alone, so that a call that leaves them leaves this
+pub record MatricesAgree (v p : D3DMATRIX) (textures world : List D3DMATRIX) (matrix : ℕ → D3DMATRIX) : Type 0 where
+  pub view : v ≡ matrix 2
+  pub projection : p ≡ matrix 3
+  pub texture : (i : ℕ) → i < 8 → getD textures i noMatrix ≡ matrix (16 + i)
+  pub palette : (i : ℕ) → i < 256 → getD world i noMatrix ≡ matrix (256 + i)
+
 pub record Agrees (s : FfState) (a : AbstractState) : Type 0 where
-  pub view : s .view ≡ a .matrix 2
-  pub projection : s .projection ≡ a .matrix 3
-  pub texture : (i : ℕ) → i < 8 → getD (s .«texture_transforms») i noMatrix ≡ a .matrix (16 + i)
-  pub palette : (i : ℕ) → i < 256 → getD (s .«world_palette») i noMatrix ≡ a .matrix (256 + i)
+  pub matrices : MatricesAgree (s .view) (s .projection) (s .«texture_transforms») (s .«world_palette») (a .matrix)
   pub material : s .material ≡ a .material
   pub lights : stateLights s ≡ a .lights

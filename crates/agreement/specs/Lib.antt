@@ -1,3 +1,2 @@
 pub mod Agrees
-pub mod Operate
 pub mod LightReads

@@ -9,8 +9,8 @@ use ff_lights::set_light_enabled_at;
 use ff_lights::vs_source_light_inputs;
 use ff_state::FfState;
 use ff_state::LightRead;
-use light_table::with_bit;
 use std::num::wrapping_add_u32;
+use words::with_bit;
 
 fn light_from(x: f32) -> D3DLIGHT9 {
     let mut light = default_light();

@@ -10,12 +10,16 @@ use Rattle.d3d9_model.specs.State.{AbstractState, withMatrix, withMateri
 use Rattle.d3d9_model.specs.Lights.{lookup, isThere, lightSet, lightEnabled, countBeyond}
 
 -- Microsoft, IDirect3DDevice9::SetTransform, MultiplyTransform, SetMaterial, SetLight, LightEnable; mark is document 01's own
-pub data Operation : Type 0 where
-  setTransform multiplyTransform : ℕ → D3DMATRIX → Operation
-  setMaterial : D3DMATERIAL9 → Operation
-  setLight : ℕ → D3DLIGHT9 → Operation
-  enableLight : ℕ → Bool → Operation
-  mark : ℕ → Operation
+-- over the types of a matrix, a material, a light and an enable: records and a Bool by value, bytes and a number by the host
+pub data OperationOn (M D L E : Type 0) : Type 0 where
+  setTransform multiplyTransform : ℕ → M → OperationOn M D L E
+  setMaterial : D → OperationOn M D L E
+  setLight : ℕ → L → OperationOn M D L E
+  enableLight : ℕ → E → OperationOn M D L E
+  mark : ℕ → OperationOn M D L E
+
+abbrev pub Operation : Type 0
+Operation = OperationOn D3DMATRIX D3DMATERIAL9 D3DLIGHT9 Bool
 
 -- "state 2 view, 3 projection, 16 to 23 texture, 256 to 511 palette"; Microsoft, D3DTRANSFORMSTATETYPE
 unfoldable pub known : ℕ → Bool

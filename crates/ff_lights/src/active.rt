@@ -1,6 +1,7 @@
 // The active lights of a state.
 ghost use mathlib.Core.Path.{_≡_};
 ghost use Prim.Native.Nat.{_≤_};
+ghost use Rattle.sections.specs.Key.{lightLimit};
 ghost use Rattle.ff_state.specs.Active.{lightActiveMask, resolveActiveLights, compactedLightMasks, vsSourceLightInputs};
 use d3d9_types::D3DLIGHT_DIRECTIONAL;
 use d3d9_types::D3DLIGHT_SPOT;
@@ -13,6 +14,8 @@ use light_table::low_bits;
 use light_table::push_overflow;
 use light_table::push_slots;
 use light_table::used_count;
+use sections::FfVsKey;
+use sections::light_limit;
 
 // The active slots, by their own numbers.
 pub fn light_active_mask(s: FfState) -> u8
@@ -22,7 +25,7 @@ pub fn light_active_mask(s: FfState) -> u8
 }
 
 // The first `limit` of the active lights.
-pub fn resolve_active_lights(s: FfState, limit: usize) -> ActiveLights
+fn first_active(s: FfState, limit: usize) -> ActiveLights
     requires { ⌜ limit ≤ 8 ⌝ }
     ensures { λ r. ⌜ r ≡ resolveActiveLights s limit ⌝ }
 {
@@ -32,10 +35,17 @@ pub fn resolve_active_lights(s: FfState, limit: usize) -> ActiveLights
     push_overflow(entries, used_count(s.overflow_count), limit, first)
 }
 
+// The active lights that are packed under a key.
+pub fn resolve_active_lights(s: FfState, key: FfVsKey) -> ActiveLights
+    ensures { λ r. ⌜ r ≡ resolveActiveLights s (lightLimit key) ⌝ }
+{
+    first_active(s, light_limit(key))
+}
+
 pub fn compacted_light_masks(s: FfState) -> LightMasks
     ensures { λ r. ⌜ r ≡ compactedLightMasks s ⌝ }
 {
-    let list = resolve_active_lights(s, 8);
+    let list = first_active(s, 8);
     LightMasks {
         active: low_bits(list.len),
         directional: kind_mask(list, D3DLIGHT_DIRECTIONAL),

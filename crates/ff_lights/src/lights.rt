@@ -8,16 +8,16 @@ use crate::slots::set_slot;
 use d3d9_types::D3DLIGHT9;
 use d3d9_types::default_light;
 use ff_state::FfState;
-use ff_state::LIGHTS;
 use ff_state::LightAnswer;
 use ff_state::LightChanged;
 use ff_state::LightRead;
 use ff_state::with_dirty;
 use light_table::OverflowLight;
 use light_table::find;
-use light_table::has_bit;
 use light_table::inserted_at;
 use light_table::used_count;
+use sections::LIGHTS;
+use words::has_bit;
 
 // The state with another entry in the place of one that is stored.
 fn replace_entry(s: FfState, at: usize, e: OverflowLight) -> LightChanged

@@ -8,9 +8,9 @@ use d3d9_types::D3DLIGHT_SPOT;
 use d3d9_types::D3DLIGHT9;
 use d3d9_types::default_light;
 use ff_state::FfState;
-use light_table::has_bit;
 use light_table::light_type_contributes;
-use light_table::with_bit;
+use words::has_bit;
+use words::with_bit;
 
 // The state with a light stored in slot i. Its enable stays.
 pub fn set_slot(s: FfState, i: usize, light: D3DLIGHT9) -> FfState

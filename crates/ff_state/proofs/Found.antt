@@ -16,17 +16,15 @@ use Rattle.light_table.proofs.LowerBound.{used-most, bound-most, stored-below}
 
 -- the code's search, of the count as it reads and the entries before it
 pub searched : (s : FfState) (i n : ℕ) (f : Found) → n ≡ usedCount (s .«overflow_count») → f ≡ findEntry (take n (s .«overflow_lights»)) i → f ≡ found s i
-unfolding found used
+unfolding found
 searched s i n f q e = e ∙ ap (λ (k : ℕ). findEntry (take k (s .«overflow_lights»)) i) q
 
 module _ (s : FfState) where
   -- the entries in use are entries of the table, and at most 56
   in-use : length (used s) ≤ length (s .«overflow_lights»)
-  unfolding used
   in-use = omega (arith, length-take (usedCount (s .«overflow_count»)) (s .«overflow_lights»))
 
   counted : length (used s) ≤ usedCount (s .«overflow_count»)
-  unfolding used
   counted = omega (arith, length-take (usedCount (s .«overflow_count»)) (s .«overflow_lights»))
 
   at-most-56 : length (used s) ≤ 56

@@ -16,20 +16,22 @@ use Rattle.d3d9_types.specs.declared.matrix.D3DMATRIX.{D3DMATRIX}
 use Rattle.d3d9_types.specs.declared.material.D3DMATERIAL9.{D3DMATERIAL9}
 use Rattle.d3d9_types.specs.declared.light.D3DLIGHT9.{D3DLIGHT9}
 use Rattle.ff_state.specs.Active.{activeLights, lightActiveMask}
-use Rattle.ff_state.specs.Overflow.{used}
 use Rattle.light_table.specs.Overflow.{usedCount, insertedAt}
-use Rattle.ff_state.specs.Sections.{bitOf, bitPlace, hasSection, allBits}
-use Rattle.light_table.specs.Bits.{hasBit, withBit}
+use Rattle.sections.specs.Sections.{bitOf, bitPlace, hasSection, allBits}
+use Rattle.words.specs.Bits.{hasBit, withBit}
 use Rattle.ff_state.specs.State.{noMatrix, withMaterial, withLightEnabled, withOverflowLights, withOverflowCount}
 use Rattle.light_table.specs.Entry.{entry}
 use Rattle.ff_state.specs.Dirty.{dirtied, markFfVsDirty, takeFfVsDirty}
-use Rattle.ff_state.specs.Transforms.{slotOf, placeSections, placeBits, placed, matrixAt, changeAt, setTransform, multiplyTransform}
-use Rattle.ff_state.specs.Material.{setMaterial}
+use Rattle.ff_state.specs.Transforms.{slotOf, placeSections, placeBits, placed, matrixAt, changeAt}
+use Rattle.ff_state.specs.Transforms as Transforms
+use Rattle.ff_state.specs.Material as Materials
 use Rattle.ff_state.specs.Lights.{setLightAt, setLightEnabledAt, changeEntry, replaceEntry, insertEntry, lightsBit, found, entryAt, flag}
 use Rattle.ff_state.specs.Slots.{setSlot, defineSlot, enableSlot}
-use Rattle.ff_state.specs.Inputs.{sameInputs, Change, setsTransform, multipliesTransform, setsMaterial, setsLight, enablesLight, marks, takes, changed}
-use Rattle.ff_state.specs.declared.sections.Section.{Section}
-use Rattle.ff_state.specs.declared.sections.Section.the-variants.{Wv, Proj, Material, Lights, Palette, Tt}
+use Rattle.ff_state.specs.Inputs.{sameInputs}
+use Rattle.ff_state.specs.Operate.{operate}
+use Rattle.d3d9_model.specs.Operations.{Operation, setTransform, multiplyTransform, setMaterial, setLight, enableLight, mark}
+use Rattle.sections.specs.declared.sections.Section.{Section}
+use Rattle.sections.specs.declared.sections.Section.the-variants.{Wv, Proj, Material, Lights, Palette, Tt}
 use Rattle.ff_state.specs.declared.state.FfState.{FfState}
 use Rattle.light_table.specs.declared.entry.OverflowLight.{OverflowLight}
 use Rattle.light_table.specs.declared.overflow.Found.{Found}
@@ -39,7 +41,7 @@ use Rattle.ff_state.specs.declared.transforms.Place.{Place}
 use Rattle.ff_state.specs.declared.transforms.Place.the-variants as Places
 use Rattle.ff_state.specs.declared.transforms.Slot.{Slot}
 use Rattle.ff_state.specs.declared.transforms.Slot.the-variants.{At, Unknown}
-use Rattle.light_table.proofs.Words.{has-or}
+use Rattle.words.proofs.Words.{has-or}
 
 -- a bit that is not set after marking was not among those marked
 unmarked : (s : FfState) (bits : ℕ) (σ : Section) → hasSection (dirtied s bits .«ff_vs_dirty») σ ≡ false → hasSection bits σ ≡ false
@@ -56,7 +58,7 @@ same Tt s = refl
 
 -- marking more bits changes no input
 marked-same : (σ : Section) (s t : FfState) (bits : ℕ) → sameInputs σ s t → sameInputs σ s (dirtied t bits)
-unfolding dirtied activeLights lightActiveMask used
+unfolding dirtied activeLights lightActiveMask
 marked-same Wv s t bits h = h
 marked-same Proj s t bits h = h
 marked-same Material s t bits h = h
@@ -67,7 +69,7 @@ marked-same Tt s t bits h = h
 -- ---- transforms
 
 placed-same : (s : FfState) (p : Place) (m : D3DMATRIX) (σ : Section) → hasSection (placeBits p) σ ≡ false → sameInputs σ s (placed s p m)
-unfolding placed placeSections hasBit activeLights lightActiveMask used
+unfolding placed placeSections hasBit activeLights lightActiveMask
 placed-same s Places.View m Wv e = never e
 placed-same s Places.View m Proj e = refl
 placed-same s Places.View m Material e = refl
@@ -106,8 +108,8 @@ place-same s Unknown f σ e = same σ s
 
 -- ---- the material
 
-material-same : (s : FfState) (m : D3DMATERIAL9) (σ : Section) → hasSection (setMaterial s m .«ff_vs_dirty») σ ≡ false → sameInputs σ s (setMaterial s m)
-unfolding setMaterial hasBit activeLights lightActiveMask used
+material-same : (s : FfState) (m : D3DMATERIAL9) (σ : Section) → hasSection (Materials.setMaterial s m .«ff_vs_dirty») σ ≡ false → sameInputs σ s (Materials.setMaterial s m)
+unfolding Materials.setMaterial hasBit activeLights lightActiveMask
 material-same s m σ e = marked-same σ s (withMaterial s m) (bitOf Material) (stored σ (unmarked (withMaterial s m) (bitOf Material) σ e))
   where
     stored : (σ : Section) → hasSection (bitOf Material) σ ≡ false → sameInputs σ s (withMaterial s m)
@@ -207,26 +209,25 @@ unfolding markFfVsDirty
 mark-keeps s bits σ =
     branch (λ (r : Marked). sameInputs σ s (r .state)) (leb bits allBits) _ _ (λ e. marked-same σ s s bits (same σ s)) (λ e. same σ s)
 
-take-keeps : (s : FfState) (σ : Section) → sameInputs σ s (takeFfVsDirty s .state)
-unfolding takeFfVsDirty activeLights lightActiveMask used
-take-keeps s Wv = (refl, refl)
-take-keeps s Proj = refl
-take-keeps s Material = refl
-take-keeps s Lights = (refl, refl)
-take-keeps s Palette = (refl, refl)
-take-keeps s Tt = refl
+pub taken-same : (s : FfState) (σ : Section) → sameInputs σ s (takeFfVsDirty s .state)
+unfolding takeFfVsDirty activeLights lightActiveMask
+taken-same s Wv = (refl, refl)
+taken-same s Proj = refl
+taken-same s Material = refl
+taken-same s Lights = (refl, refl)
+taken-same s Palette = (refl, refl)
+taken-same s Tt = refl
 
 -- ---- every call
 
-pub unmarked-same : (s : FfState) (c : Change) (σ : Section) → hasSection (changed s c .«ff_vs_dirty») σ ≡ false → sameInputs σ s (changed s c)
-unfolding changed setTransform multiplyTransform
-unmarked-same s (setsTransform n m) σ e = place-same s (slotOf n) (λ (p : Place). m) σ e
-unmarked-same s (multipliesTransform n m) σ e = place-same s (slotOf n) (λ (p : Place). matMul (matrixAt s p) m) σ e
-unmarked-same s (setsMaterial m) σ e = material-same s m σ e
-unmarked-same s (setsLight i l) σ e = set-light-keeps s i l σ e
-unmarked-same s (enablesLight i on) σ e = enable-light-keeps s i on σ e
-unmarked-same s (marks bits) σ e = mark-keeps s bits σ
-unmarked-same s takes σ e = take-keeps s σ
+pub unmarked-same : (s : FfState) (op : Operation) (σ : Section) → hasSection (operate s op .state .«ff_vs_dirty») σ ≡ false → sameInputs σ s (operate s op .state)
+unfolding operate Transforms.setTransform Transforms.multiplyTransform
+unmarked-same s (setTransform n m) σ e = place-same s (slotOf n) (λ (p : Place). m) σ e
+unmarked-same s (multiplyTransform n m) σ e = place-same s (slotOf n) (λ (p : Place). matMul (matrixAt s p) m) σ e
+unmarked-same s (setMaterial m) σ e = material-same s m σ e
+unmarked-same s (setLight i l) σ e = set-light-keeps s i l σ e
+unmarked-same s (enableLight i on) σ e = enable-light-keeps s i on σ e
+unmarked-same s (mark bits) σ e = mark-keeps s bits σ
 
 -- a section's bit stands at its place
 pub bit-place : (σ : Section) → bitOf σ ≡ 2 ^ bitPlace σ

@@ -3,7 +3,7 @@ use Prim.Native.Nat.{ℕ}
 use mathlib.Core.Bool.{cond}
 use lib.Dec.{leb}
 use lib.Bits.{bitOr}
-use Rattle.ff_state.specs.Sections.{allBits}
+use Rattle.sections.specs.Sections.{allBits}
 use Rattle.ff_state.specs.State.{withFfVsDirty}
 use Rattle.ff_state.specs.declared.state.FfState.{FfState}
 use Rattle.ff_state.specs.declared.dirty.MarkAnswer.{MarkAnswer}

@@ -1,4 +1,3 @@
-pub mod Sections
 pub mod State
 pub mod Dirty
 pub mod Transforms
@@ -8,5 +7,6 @@ pub mod Overflow
 pub mod Lights
 pub mod Active
 pub mod Inputs
+pub mod Operate
 pub mod Cases
 pub mod Valid

@@ -5,15 +5,15 @@ use lib.Dec.{ltb, eqb}
 use lib.ListN.{set, getD}
 use Rattle.d3d9_types.specs.Light.{defaultLight}
 use Rattle.d3d9_types.specs.declared.light.D3DLIGHT9.{D3DLIGHT9}
-use Rattle.light_table.specs.Bits.{hasBit}
-use Rattle.ff_state.specs.Sections.{bitOf}
+use Rattle.words.specs.Bits.{hasBit}
+use Rattle.sections.specs.Sections.{bitOf}
 use Rattle.light_table.specs.Entry.{entry, zeroEntry}
 use Rattle.ff_state.specs.State.{withOverflowLights, withOverflowCount}
 use Rattle.ff_state.specs.Dirty.{dirtied}
 use Rattle.ff_state.specs.Slots.{setSlot, enableSlot}
 use Rattle.light_table.specs.Overflow.{usedCount, findEntry, insertedAt}
 use Rattle.ff_state.specs.Overflow.{used}
-use Rattle.ff_state.specs.declared.sections.Section.the-variants as Sections
+use Rattle.sections.specs.declared.sections.Section.the-variants as Sections
 use Rattle.ff_state.specs.declared.state.FfState.{FfState}
 use Rattle.light_table.specs.declared.entry.OverflowLight.{OverflowLight}
 use Rattle.light_table.specs.declared.overflow.Found.{Found}

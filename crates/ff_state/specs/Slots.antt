@@ -5,7 +5,7 @@ use lib.Dec.{eqb}
 use lib.ListN.{set}
 use Rattle.d3d9_types.specs.Light.{defaultLight}
 use Rattle.d3d9_types.specs.declared.light.D3DLIGHT9.{D3DLIGHT9}
-use Rattle.light_table.specs.Bits.{hasBit, withBit}
+use Rattle.words.specs.Bits.{hasBit, withBit}
 use Rattle.light_table.specs.Kinds.{contributes}
 use Rattle.ff_state.specs.State.{withLights, withLightEnabled, withLightSetMask, withLightDefinedMask, withLightDirectionalMask, withLightSpotMask}
 use Rattle.ff_state.specs.declared.state.FfState.{FfState}

@@ -7,12 +7,12 @@ use lib.ListN.{set, getD}
 use Rattle.d3d9_types.specs.Matrix.{identity}
 use Rattle.d3d9_types.specs.declared.matrix.D3DMATRIX.{D3DMATRIX}
 use Rattle.matrix.specs.Product.{matMul}
-use Rattle.ff_state.specs.Sections.{bitsOf}
+use Rattle.sections.specs.Sections.{bitsOf}
 use Rattle.ff_state.specs.State.{noMatrix, withView, withProjection, withWorldPalette, withWorldPaletteHighWater, withTextureTransforms}
 use Rattle.ff_state.specs.Dirty.{dirtied}
-use Rattle.ff_state.specs.declared.sections.Section.{Section}
-use Rattle.ff_state.specs.declared.sections.Section.the-variants.{Wv, Proj, Lights, Tt}
-use Rattle.ff_state.specs.declared.sections.Section.the-variants as Sections
+use Rattle.sections.specs.declared.sections.Section.{Section}
+use Rattle.sections.specs.declared.sections.Section.the-variants.{Wv, Proj, Lights, Tt}
+use Rattle.sections.specs.declared.sections.Section.the-variants as Sections
 use Rattle.ff_state.specs.declared.state.FfState.{FfState}
 use Rattle.ff_state.specs.declared.transforms.Place.{Place}
 use Rattle.ff_state.specs.declared.transforms.Place.the-variants.{View, Projection, Texture, Palette}

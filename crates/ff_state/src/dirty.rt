@@ -1,9 +1,9 @@
 // The dirty bits: marked, and taken.
 ghost use mathlib.Core.Path.{_≡_};
 ghost use Rattle.ff_state.specs.Dirty.{dirtied, markFfVsDirty, takeFfVsDirty};
-use crate::sections::ALL;
 use crate::state::FfState;
-use light_table::wide8;
+use sections::ALL;
+use words::wide8;
 
 pub enum MarkAnswer {
     Accepted,

@@ -4,7 +4,6 @@
 mod dirty;
 mod lights;
 mod material;
-mod sections;
 mod state;
 mod transforms;
 
@@ -15,9 +14,6 @@ pub use dirty::with_dirty;
 pub use lights::LightAnswer;
 pub use lights::LightChanged;
 pub use lights::LightRead;
-pub use sections::LIGHTS;
-pub use sections::Section;
-pub use sections::section_bit;
 pub use state::FfState;
 pub use transforms::Place;
 pub use transforms::Slot;

@@ -2,9 +2,9 @@
 ghost use mathlib.Core.Path.{_≡_};
 ghost use Rattle.ff_state.specs.Material.{setMaterial};
 use crate::dirty::with_dirty;
-use crate::sections::MATERIAL;
 use crate::state::FfState;
 use d3d9_types::D3DMATERIAL9;
+use sections::MATERIAL;
 
 impl FfState {
     pub fn set_material(self, m: D3DMATERIAL9) -> FfState

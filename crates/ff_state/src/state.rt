@@ -1,7 +1,6 @@
 // The state's record and the fresh state.
 ghost use mathlib.Core.Path.{_≡_};
 ghost use Rattle.ff_state.specs.State.{freshState};
-use crate::sections::ALL;
 use d3d9_types::D3DLIGHT9;
 use d3d9_types::D3DMATERIAL9;
 use d3d9_types::D3DMATRIX;
@@ -10,6 +9,7 @@ use d3d9_types::default_light;
 use d3d9_types::default_material;
 use light_table::OverflowLight;
 use light_table::zero_light;
+use sections::ALL;
 
 // The lights from index 8 on stand in overflow_lights, by ascending index; the first overflow_count
 // are used. How odd values read is said in specs/State.antt.

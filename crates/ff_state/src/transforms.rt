@@ -4,15 +4,15 @@ ghost use Prim.Native.Nat.{_<_};
 ghost use Rattle.ff_state.specs.Transforms.{slotOf, InRange, matrixAt, placed, placeBits, setTransform, multiplyTransform, transformOf};
 ghost use Rattle.ff_state.specs.Transforms as Transforms;
 use crate::dirty::with_dirty;
-use crate::sections::LIGHTS;
-use crate::sections::PALETTE;
-use crate::sections::PROJ;
-use crate::sections::TT;
-use crate::sections::WV;
 use crate::state::FfState;
 use d3d9_types::D3DMATRIX;
-use light_table::wide16;
 use matrix::mat_mul;
+use sections::LIGHTS;
+use sections::PALETTE;
+use sections::PROJ;
+use sections::TT;
+use sections::WV;
+use words::wide16;
 
 // Where a transform is stored.
 pub enum Place {

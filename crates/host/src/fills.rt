@@ -1,11 +1,11 @@
 // The rows of each section as bytes, 16 to a row.
 ghost use mathlib.Core.Path.{_≡_};
 ghost use Rattle.calls.specs.Answer.{answer};
-ghost use Rattle.ff_state.specs.declared.sections.Section.the-variants.{Wv, Proj, Material, Lights, Palette, Tt};
+ghost use Rattle.sections.specs.declared.sections.Section.the-variants.{Wv, Proj, Material, Lights, Palette, Tt};
 ghost use Rattle.pack_calls.specs.Fill.{ffFillSection};
 ghost use Rattle.pack_calls.specs.Key.{keyOf};
-use ff_state::Section;
 use pack_calls::fill_section;
+use sections::Section;
 
 #[no_mangle]
 pub extern "C" fn ff_fill_wv_section(

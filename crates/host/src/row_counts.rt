@@ -1,12 +1,12 @@
 // How many rows each section has under a key, and how many a draw reads.
 ghost use mathlib.Core.Path.{_≡_};
 ghost use Rattle.calls.specs.Answer.{answer};
-ghost use Rattle.ff_state.specs.declared.sections.Section.the-variants.{Wv, Proj, Material, Lights, Palette, Tt};
+ghost use Rattle.sections.specs.declared.sections.Section.the-variants.{Wv, Proj, Material, Lights, Palette, Tt};
 ghost use Rattle.pack_calls.specs.Key.{keyOf};
 ghost use Rattle.pack_calls.specs.RowCounts.{ffSectionRows, ffVsRowCount};
-use ff_state::Section;
 use pack_calls::section_rows;
 use pack_calls::vs_row_count;
+use sections::Section;
 
 #[no_mangle]
 pub extern "C" fn ff_vs_row_count(

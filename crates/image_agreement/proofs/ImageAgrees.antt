@@ -72,7 +72,7 @@ module _ (bytes : List ℕ) where
   slots-are = among-is (slotDefined bytes) (slotEntry (stateOf bytes)) (slotLight bytes) 8 slot-is 8 0 (omega arith)
 
   entries-are : countOf bytes ≤ 56 → map overflowEntry (used (stateOf bytes)) ≡ listAt entryLight 112 (countOf bytes) bytes 17_932
-  unfolding stateOf used usedCount entryLight entryAt
+  unfolding stateOf usedCount entryLight entryAt
   entries-are few =
       let all : min (countOf bytes) 56 ≡ countOf bytes = omega arith in
       rw (all, take-listAt entryAt 112 (countOf bytes) 56 bytes 17_932 few) (map-listAt overflowEntry entryAt 112 (countOf bytes) bytes 17_932)
@@ -85,10 +85,13 @@ module _ (bytes : List ℕ) where
   unfolding stateOf imageAbstract imageMatrix
   image-agrees h =
       record {
-        view = refl;
-        projection = refl;
-        texture = λ (i : ℕ) (l : i < 8). getD-listAt matrixAt 64 8 bytes 16_512 i noMatrix l ∙ sym (texture-is bytes i l);
-        palette = λ (i : ℕ) (l : i < 256). getD-listAt matrixAt 64 256 bytes 128 i noMatrix l ∙ sym (palette-is bytes i l);
+        matrices =
+            record {
+              view = refl;
+              projection = refl;
+              texture = λ (i : ℕ) (l : i < 8). getD-listAt matrixAt 64 8 bytes 16_512 i noMatrix l ∙ sym (texture-is bytes i l);
+              palette = λ (i : ℕ) (l : i < 256). getD-listAt matrixAt 64 256 bytes 128 i noMatrix l ∙ sym (palette-is bytes i l);
+            };
         material = refl;
         lights = lights-are (accepted bytes h .count);
       }

@@ -15,11 +15,11 @@ use Rattle.image_laws.proofs.Exactly.{image-bytes}
 use Rattle.image_laws.proofs.ValidAccepted.{valid-accepted}
 use Rattle.image_laws.proofs.WrittenRead.{written-read}
 use Rattle.agreement.specs.Agrees.{Agrees}
-use Rattle.agreement.specs.Operate.{operate, Admissible}
+use Rattle.ff_state.specs.Operate.{operate, OperationFits}
 use Rattle.agreement.proofs.Kept.{valid-kept, agrees-kept, refused-alike}
 use Rattle.image_agreement.specs.OnImage.{onImage, onImageNumber}
 use Rattle.image_agreement.proofs.ImageAgrees.{image-agrees}
-use Rattle.image_agreement.proofs.Refused.{refused-same}
+use Rattle.agreement.proofs.Refused.{refused-same}
 
 module _ (bytes : List ℕ) (op : Operation) (a : IsAccepted bytes) where
   valid : Valid (stateOf bytes)
@@ -34,7 +34,7 @@ module _ (bytes : List ℕ) (op : Operation) (a : IsAccepted bytes) where
   unfolding onImageNumber onImage
   image-refused-same h = rw (refused-same (stateOf bytes) op h) (written-read bytes (a .each) (a .taken))
 
-  module _ (fit : Admissible op) where
+  module _ (fit : OperationFits op) where
     pub image-accepted-kept : IsAccepted (onImage bytes op)
     unfolding onImage
     image-accepted-kept =

@@ -4,7 +4,7 @@ use mathlib.Core.List.{List}
 use Rattle.d3d9_model.specs.Operations.{Operation}
 use Rattle.image.specs.Format.{imageBytes}
 use Rattle.image.specs.Read.{stateOf}
-use Rattle.agreement.specs.Operate.{operate}
+use Rattle.ff_state.specs.Operate.{operate}
 
 -- document 01's number of the call's own refusal, and the image afterwards
 unfoldable pub onImageNumber : List ℕ → Operation → ℕ

@@ -16,11 +16,10 @@ use Rattle.codec.proofs.Laws.Little.{numberAt-lt}
 use Rattle.codec.proofs.Laws.Matrix.{matrixAt-fits}
 use Rattle.codec.proofs.Laws.Material.{materialAt-fits}
 use Rattle.codec.proofs.Laws.Light.{lightAt-fits}
-use Rattle.light_table.specs.Bits.{hasBit}
+use Rattle.words.specs.Bits.{hasBit}
 use Rattle.light_table.specs.Entry.{zeroEntry}
 use Rattle.light_table.specs.Overflow.{usedCount}
 use Rattle.light_table.specs.declared.entry.OverflowLight.{OverflowLight}
-use Rattle.ff_state.specs.Overflow.{used}
 use Rattle.ff_state.specs.State.{noMatrix}
 use Rattle.ff_state.specs.Valid.{Valid, SlotsValid, OverflowValid, FloatsValid}
 use Rattle.image_parts.specs.Entry.{entryAt}
@@ -38,7 +37,7 @@ listed : {A : Type 0} (P : A → Type 0) (read : List ℕ → ℕ → A) (size n
 listed P read size n bytes at i d l h = subst P (sym (getD-listAt read size n bytes at i d l)) h
 
 module _ (bytes : List ℕ) (b : Bytes bytes) (a : Accepted bytes) where
-  slots-valid : SlotsValid (stateOf bytes)
+  slots-valid : let s = stateOf bytes in SlotsValid (s .lights) (s .«light_enabled») (s .«light_set_mask») (s .«light_defined_mask») (s .«light_directional_mask») (s .«light_spot_mask»)
   unfolding stateOf setMask typeMask
   slots-valid =
       let set = slotSet (definedOf bytes) (lightsOf bytes) in
@@ -59,8 +58,8 @@ module _ (bytes : List ℕ) (b : Bytes bytes) (a : Accepted bytes) where
         spot-mask = mask-has spot 8;
       }
 
-  overflow-valid : OverflowValid (stateOf bytes)
-  unfolding stateOf used usedCount entryAt
+  overflow-valid : OverflowValid (stateOf bytes .«overflow_lights») (stateOf bytes .«overflow_count»)
+  unfolding stateOf usedCount entryAt
   overflow-valid =
       let all : min (countOf bytes) 56 ≡ countOf bytes = omega (arith, a .count) in
       record {
@@ -76,7 +75,7 @@ module _ (bytes : List ℕ) (b : Bytes bytes) (a : Accepted bytes) where
         unused = a .unused;
       }
 
-  floats-valid : FloatsValid (stateOf bytes)
+  floats-valid : let s = stateOf bytes in FloatsValid (s .view) (s .projection) (s .«world_palette») (s .«texture_transforms») (s .material) (s .lights) (s .«overflow_lights»)
   unfolding stateOf entryAt
   floats-valid =
       record {

@@ -8,8 +8,8 @@ use mathlib.Core.Bool.{Bool, true, false, true≢false}
 use lib.Dec.{eqb}
 use borrow.Author.Tests.{eqb-true, eqb-false}
 use Rattle.lemmas.proofs.Branch.{branch}
-use Rattle.light_table.specs.Bits.{hasBit}
-use Rattle.light_table.proofs.Words.{with-bit-lt, has-with-bit, has-bit-suc}
+use Rattle.words.specs.Bits.{hasBit}
+use Rattle.words.proofs.Words.{with-bit-lt, has-with-bit, has-bit-suc}
 use Rattle.image_parts.specs.Masks.{maskOf}
 
 module _ (p : ℕ → Bool) where

@@ -16,11 +16,10 @@ use Rattle.codec.specs.Matrix.{matrixBytes}
 use Rattle.codec.specs.Light.{lightBytes}
 use Rattle.codec.proofs.Laws.Matrix.{length-matrixBytes}
 use Rattle.codec.proofs.Laws.Light.{length-lightBytes}
-use Rattle.light_table.specs.Bits.{hasBit}
+use Rattle.words.specs.Bits.{hasBit}
 use Rattle.light_table.specs.Entry.{zeroEntry}
 use Rattle.light_table.specs.Overflow.{usedCount}
 use Rattle.light_table.specs.declared.entry.OverflowLight.{OverflowLight}
-use Rattle.ff_state.specs.Overflow.{used}
 use Rattle.ff_state.specs.State.{noMatrix}
 use Rattle.ff_state.specs.Valid.{Valid, slotLight}
 use Rattle.ff_state.specs.declared.state.FfState.{FfState}
@@ -106,7 +105,7 @@ module _ (s : FfState) (v : Valid s) (bytes : List ℕ) (w : Written s bytes) wh
 
   module _ (n : ℕ) (e : n ≡ s .«overflow_count») (read : listAt entryAt 112 56 bytes 17_932 ≡ s .«overflow_lights») where
     sorted-pass : ascends n bytes 17_932 ≡ true
-    unfolding ascends used usedCount
+    unfolding ascends usedCount
     sorted-pass =
         let few : n ≤ 56 = omega (arith, v .overflow .count) in
         let all : min (s .«overflow_count») 56 ≡ n = omega (arith, v .overflow .count) in

@@ -5,7 +5,7 @@ use mathlib.Core.Path.{_≡_, refl}
 use mathlib.Core.List.{List, [], _∷_, map}
 use Rattle.d3d9_types.specs.Matrix.{identity}
 use Rattle.codec.specs.Matrix.{matrixAt}
-use Rattle.light_table.specs.Bits.{hasBit}
+use Rattle.words.specs.Bits.{hasBit}
 use Rattle.d3d9_model.specs.State.{AbstractLight}
 use Rattle.image_model.specs.Abstract.{imageMatrix, definedAmong}
 

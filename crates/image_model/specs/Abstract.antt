@@ -10,7 +10,7 @@ use Rattle.codec.specs.Little.{numberAt}
 use Rattle.codec.specs.Matrix.{matrixAt}
 use Rattle.codec.specs.Material.{materialAt}
 use Rattle.codec.specs.Light as Codec
-use Rattle.light_table.specs.Bits.{hasBit}
+use Rattle.words.specs.Bits.{hasBit}
 use Rattle.d3d9_model.specs.State.{AbstractState, AbstractLight}
 use Rattle.d3d9_model.specs.Lights.{lightAt}
 use Rattle.image_parts.specs.Lists.{listAt}

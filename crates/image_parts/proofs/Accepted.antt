@@ -12,7 +12,7 @@ use borrow.Author.Tests.{ltb-false, leb-true, eqb-true, not-false}
 use Rattle.d3d9_types.specs.Light.{defaultLight}
 use Rattle.codec.specs.Little.{numberAt}
 use Rattle.codec.specs.Light.{lightAt}
-use Rattle.light_table.specs.Bits.{hasBit}
+use Rattle.words.specs.Bits.{hasBit}
 use Rattle.light_table.specs.Entry.{zeroEntry}
 use Rattle.light_table.specs.Overflow.{ascending}
 use Rattle.image_parts.specs.Entry.{entryAt}

@@ -6,7 +6,7 @@ use lib.Dec.{eqb}
 use lib.ListN.{getD}
 use Rattle.d3d9_types.specs.Light.{defaultLight}
 use Rattle.d3d9_types.specs.declared.light.D3DLIGHT9.{D3DLIGHT9}
-use Rattle.light_table.specs.Bits.{hasBit, withBit}
+use Rattle.words.specs.Bits.{hasBit, withBit}
 use Rattle.light_table.specs.Kinds.{contributes}
 
 -- bits 0 to n − 1 as the test says

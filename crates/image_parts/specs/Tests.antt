@@ -7,7 +7,7 @@ use lib.ListN.{length, getD}
 use Rattle.d3d9_types.specs.Light.{defaultLight}
 use Rattle.codec.specs.Little.{numberAt}
 use Rattle.codec.specs.Light.{lightBytes}
-use Rattle.light_table.specs.Bits.{hasBit}
+use Rattle.words.specs.Bits.{hasBit}
 use Rattle.light_table.specs.Overflow.{ascending}
 use Rattle.image_parts.specs.Entry.{entryAt}
 use Rattle.image_parts.specs.Every.{every}

@@ -3,13 +3,13 @@ ghost use mathlib.Core.Path.{_≡_};
 ghost use mathlib.Core.Bool.{_&&_};
 ghost use Prim.Native.Nat.{_<_};
 ghost use lib.Dec.{eqb};
-ghost use Rattle.light_table.specs.Bits.{hasBit};
+ghost use Rattle.words.specs.Bits.{hasBit};
 ghost use Rattle.light_table.specs.Kinds.{contributes};
 ghost use Rattle.image_parts.specs.Masks.{setMask, typeMask};
 use d3d9_types::D3DLIGHT9;
-use light_table::has_bit;
 use light_table::light_type_contributes;
-use light_table::with_bit;
+use words::has_bit;
+use words::with_bit;
 
 fn slot_set(defined: u8, i: u32, type_: u32) -> bool
     requires { ⌜ i < 8 ⌝ }

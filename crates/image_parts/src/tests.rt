@@ -6,7 +6,7 @@ ghost use Rattle.image_parts.specs.Tests.{plainWord, nanFree, lightsNanF
 use codec::put_light;
 use codec::u32_at;
 use d3d9_types::default_light;
-use light_table::has_bit;
+use words::has_bit;
 
 fn plain_word(n: u32) -> bool
     ensures { λ r. ⌜ r ≡ plainWord n ⌝ }

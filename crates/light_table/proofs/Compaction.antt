@@ -20,9 +20,9 @@ use Rattle.d3d9_types.specs.declared.color.D3DCOLORVALUE.{D3DCOLORVALUE}
 use Rattle.d3d9_types.specs.declared.vector.D3DVECTOR.{D3DVECTOR}
 use Rattle.d3d9_types.specs.declared.light.D3DLIGHT9.{D3DLIGHT9}
 use Rattle.light_table.specs.Active.{slotsFrom, isActive, activeOverflow, listed, noLights, pushed, pushAll, kindMask}
-use Rattle.light_table.specs.Bits.{hasBit}
+use Rattle.words.specs.Bits.{hasBit}
 use Rattle.light_table.specs.declared.entry.OverflowLight.{OverflowLight}
-use Rattle.light_table.proofs.Words.{flag-is, flag-small-cond}
+use Rattle.words.proofs.Words.{flag-is, flag-small-cond}
 use Rattle.light_table.specs.declared.active.ActiveLights.{ActiveLights}
 
 -- a list of at most eight, padded

@@ -1,5 +1,4 @@
 pub mod Lists
-pub mod Words
 pub mod LowerBound
 pub mod Insertion
 pub mod Sorted

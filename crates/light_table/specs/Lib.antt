@@ -1,4 +1,3 @@
-pub mod Bits
 pub mod Entry
 pub mod Kinds
 pub mod Overflow

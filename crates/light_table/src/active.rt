@@ -4,11 +4,11 @@ ghost use mathlib.Core.Bool.{cond};
 ghost use Prim.Native.Nat.{_≤_, _<_};
 ghost use lib.ListN.{take};
 ghost use Rattle.light_table.specs.Active.{activeSlots, isActive, activeOverflow, noLights, pushed, pushAll, kindMask, lowBits, fourBytes};
-use crate::bits::has_bit;
 use crate::entry::OverflowLight;
 use crate::kinds::light_type_contributes;
 use d3d9_types::D3DLIGHT9;
 use d3d9_types::default_light;
+use words::has_bit;
 
 // The first `len` are used; the others are the default light.
 pub struct ActiveLights {

@@ -1,7 +1,6 @@
-// The table of lights from index 8 on, lists of active lights, and one bit of a mask: what the state's
-// calls on lights are made of. Only crates of this repository call these.
+// The table of lights from index 8 on and lists of active lights: what the state's calls on lights are
+// made of. Only crates of this repository call these.
 mod active;
-mod bits;
 mod entry;
 mod kinds;
 mod overflow;
@@ -13,10 +12,6 @@ pub use active::kind_mask;
 pub use active::low_bits;
 pub use active::push_overflow;
 pub use active::push_slots;
-pub use bits::has_bit;
-pub use bits::wide8;
-pub use bits::wide16;
-pub use bits::with_bit;
 pub use entry::OverflowLight;
 pub use entry::zero_light;
 pub use kinds::light_type_contributes;

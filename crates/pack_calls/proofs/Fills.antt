@@ -8,49 +8,48 @@ use mathlib.Core.List.{List}
 use lib.Ieee.{Float}
 use lib.ListN.{length, take}
 use lib.Seq.{length-take-le}
-use Rattle.ff_state.specs.declared.sections.Section.{Section}
+use Rattle.sections.specs.declared.sections.Section.{Section}
 use Rattle.ff_state.specs.declared.state.FfState.{FfState}
 use Rattle.image.specs.Read.{stateOf}
 use Rattle.image_parts.specs.Reasons.{refused}
 use Rattle.calls.specs.Answer.{answered, orNext}
 use Rattle.calls.specs.Call.{callCode, reading}
 use Rattle.calls.proofs.Answers.{length-right, length-wrong}
-use Rattle.sections.specs.Key.{noTextures}
-use Rattle.sections.specs.Shape.{sectionShape, sectionRows}
+use Rattle.sections.specs.Counts.{sectionRows}
 use Rattle.sections.proofs.Tiles.{fits-mirror}
 use Rattle.sections.specs.declared.key.FfVsKey.{FfVsKey}
-use Rattle.sections.specs.declared.shape.SectionShape.{SectionShape}
 use Rattle.pack_calls.specs.Fill.{maskNumber, fillBytes, fillNumber, ffFillSection}
+use Rattle.packing.specs.Pack.{stateCount}
 
 or-none : (n : ℕ) → orNext n 0 ≡ n
 unfolding orNext
 or-none zero = refl
 or-none (suc n) = refl
 
-module _ (σ : Section) (k : FfVsKey) {h : SectionShape} (is : h ≡ sectionShape σ k noTextures) where
-  four-rows : 4 * (4 * h .rows) ≡ 16 * sectionRows σ k noTextures
-  four-rows = omega (arith, ap (λ (t : SectionShape). t .rows) is)
+module _ (σ : Section) (k : FfVsKey) {rows : ℕ} (is : rows ≡ sectionRows σ k 0) where
+  four-rows : 4 * (4 * rows) ≡ 16 * sectionRows σ k 0
+  four-rows = omega (arith, is)
 
-  pub fill-fits : k .«vertex_blend_count» < 256 → 4 * h .rows ≤ 4460
-  fill-fits byte = omega (arith, ap (λ (t : SectionShape). t .rows) is, fits-mirror k noTextures byte σ)
+  pub fill-fits : k .«vertex_blend_count» < 256 → 4 * rows ≤ 4460
+  fill-fits byte = omega (arith, is, fits-mirror k 0 byte σ)
 
   -- a buffer of the mirror's floats has the section's at its front
-  pub front : k .«vertex_blend_count» < 256 → (xs : List Float) → length xs ≡ 4460 → length (take (4 * h .rows) xs) ≡ 4 * h .rows
-  front byte xs e = length-take-le (4 * h .rows) xs (omega (arith, e, fill-fits byte))
+  pub front : k .«vertex_blend_count» < 256 → (xs : List Float) → length xs ≡ 4460 → length (take (4 * rows) xs) ≡ 4 * rows
+  front byte xs e = length-take-le (4 * rows) xs (omega (arith, e, fill-fits byte))
 
-  pub front-rows : k .«vertex_blend_count» < 256 → (xs : List Float) → length xs ≡ 4460 → length (take (4 * h .rows) xs) ≡ 4 * sectionRows σ k noTextures
-  front-rows byte xs e = front byte xs e ∙ ap (λ (t : SectionShape). 4 * t .rows) is
+  pub front-rows : k .«vertex_blend_count» < 256 → (xs : List Float) → length xs ≡ 4460 → length (take (4 * rows) xs) ≡ 4 * sectionRows σ k 0
+  front-rows byte xs e = front byte xs e ∙ ap (λ (n : ℕ). 4 * n) is
 
   module _ (dst : List ℕ) where
-    pub fill-wrong : (s : FfState) → (length dst ≡ 4 * (4 * h .rows) → ⊥) → fillNumber σ k dst s ≡ 4
+    pub fill-wrong : (s : FfState) → (length dst ≡ 4 * (4 * rows) → ⊥) → fillNumber σ k dst s ≡ 4
     unfolding fillNumber orNext
-    fill-wrong s n = rw (length-wrong (16 * sectionRows σ k noTextures) dst (λ e. n (e ∙ sym four-rows)))
+    fill-wrong s n = rw (length-wrong (16 * stateCount σ s k) dst (λ e. n (e ∙ sym four-rows)))
 
-    pub fill-right : (s : FfState) → length dst ≡ 4 * (4 * h .rows) → fillNumber σ k dst s ≡ maskNumber σ k s
+    pub fill-right : (s : FfState) → length dst ≡ 4 * (4 * rows) → fillNumber σ k dst s ≡ maskNumber σ k s
     unfolding fillNumber orNext
-    fill-right s e = rw (length-right (16 * sectionRows σ k noTextures) dst (e ∙ four-rows))
+    fill-right s e = rw (length-right (16 * stateCount σ s k) dst (e ∙ four-rows))
 
-    pub fill-done : (image : List ℕ) → refused image ≡ false → length dst ≡ 4 * (4 * h .rows)
+    pub fill-done : (image : List ℕ) → refused image ≡ false → length dst ≡ 4 * (4 * rows)
         → answered (maskNumber σ k (stateOf image)) (fillBytes σ k (stateOf image)) dst ≡ ffFillSection σ image k dst
     unfolding reading callCode
     fill-done image r e = rw (r, fill-right (stateOf image) e, or-none (maskNumber σ k (stateOf image)))

@@ -8,13 +8,11 @@ use mathlib.Core.List.{List}
 use lib.Ieee.{Float}
 use lib.ListN.{length}
 use borrow.Author.Tests.{eq-eqb}
-use Rattle.ff_state.specs.declared.sections.Section.{Section}
+use Rattle.sections.specs.declared.sections.Section.{Section}
 use Rattle.ff_state.specs.declared.state.FfState.{FfState}
-use Rattle.sections.specs.Key.{noTextures}
-use Rattle.sections.specs.Shape.{sectionRows}
 use Rattle.sections.specs.declared.key.FfVsKey.{FfVsKey}
 use Rattle.packing.specs.Inputs.{maskAccepted, inputsOf}
-use Rattle.packing.specs.Pack.{Outcome, outcome, packInputs, packSection, packNumber, stateRows}
+use Rattle.packing.specs.Pack.{Outcome, outcome, packInputs, packSection, packNumber, stateRows, stateCount}
 use Rattle.packing.specs.declared.answer.PackAnswer.{PackAnswer}
 use Rattle.packing.specs.declared.answer.PackAnswer.the-variants.{Packed, WrongMask}
 use Rattle.pack_calls.specs.Fill.{maskNumber}
@@ -32,10 +30,10 @@ rows-by : (b : Bool) (rows fl : List Float) → _≡_ {A = ℕ} (cond b 0 5) 0 �
 rows-by true rows fl e = refl
 rows-by false rows fl e = absurd (omega (arith, e))
 
-module _ (σ : Section) (s : FfState) (k : FfVsKey) (fl : List Float) (long : length fl ≡ 4 * sectionRows σ k noTextures) where
+module _ (σ : Section) (s : FfState) (k : FfVsKey) (fl : List Float) (long : length fl ≡ 4 * stateCount σ s k) where
   past : packSection σ s k fl ≡ byMask (maskAccepted σ k (inputsOf s)) (stateRows σ s k) fl
   unfolding packSection packInputs
-  past = rw (eq-eqb (length fl) (4 * sectionRows σ k noTextures) long)
+  past = rw (eq-eqb (length fl) (4 * stateCount σ s k) long)
 
   module _ {a : PackAnswer} {xs : List Float} (e : outcome a xs ≡ packSection σ s k fl) where
     pub number-is : packNumber a ≡ maskNumber σ k s

@@ -3,21 +3,20 @@ ghost use mathlib.Core.Path.{_≡_};
 ghost use Prim.Native.Nat.{_*_};
 ghost use lib.ListN.{length};
 ghost use Rattle.calls.specs.Answer.{answer, answered};
-ghost use Rattle.sections.specs.Key.{noTextures};
-ghost use Rattle.sections.specs.Shape.{sectionRows};
+ghost use Rattle.packing.specs.Pack.{stateCount};
 ghost use Rattle.pack_calls.specs.Key.{keyOf};
 ghost use Rattle.pack_calls.specs.Fill.{maskNumber, fillBytes, ffFillSection};
 use crate::floats::put_floats;
 use crate::key::key_of;
 use ff_state::FfState;
-use ff_state::Section;
 use image::state_of;
 use image_parts::image_refused;
 use packing::PackAnswer;
 use packing::pack_section;
 use sections::FfVsKey;
 use sections::NO_TEXTURES;
-use sections::section_shape;
+use sections::Section;
+use sections::section_rows;
 
 // The floats of the mirror's 1,115 rows: no section has more.
 const MIRROR_FLOATS: usize = 4460;
@@ -36,7 +35,7 @@ pub fn fill_bytes(
     floats: &mut [f32],
     dst: &mut [u8],
 ) -> u32
-    requires { ⌜ (length (now floats) ≡ 4 * sectionRows section key noTextures) × (length (now dst) ≡ 4 * length (now floats)) ⌝ }
+    requires { ⌜ (length (now floats) ≡ 4 * stateCount section s key) × (length (now dst) ≡ 4 * length (now floats)) ⌝ }
     ensures { λ r. ⌜ answer r (now (dst .exit)) ≡ answered (maskNumber section key s) (fillBytes section key s) (now (dst .entry)) ⌝ }
 {
     let answer = pack_section(section, s, key, floats);
@@ -56,8 +55,8 @@ fn fill_keyed(section: Section, image: &[u8], key: FfVsKey, dst: &mut [u8]) -> u
     if image_refused(image) {
         return 9;
     }
-    let shape = section_shape(section, key, NO_TEXTURES);
-    let n = 4 * shape.rows as usize;
+    let rows = section_rows(section, key, NO_TEXTURES);
+    let n = 4 * rows as usize;
     if dst.len() != 4 * n {
         return 4;
     }

@@ -4,12 +4,11 @@ ghost use Rattle.calls.specs.Answer.{answer};
 ghost use Rattle.pack_calls.specs.Key.{keyOf};
 ghost use Rattle.pack_calls.specs.RowCounts.{ffSectionRows, ffVsRowCount};
 use crate::key::key_of;
-use ff_state::Section;
 use image_parts::image_refused;
 use sections::FfVsKey;
 use sections::NO_TEXTURES;
+use sections::Section;
 use sections::ff_vs_row_count;
-use sections::section_shape;
 
 fn rows_keyed(section: Section, image: &[u8], key: FfVsKey, out: &mut u32) -> u32
     ensures { λ r. ⌜ answer r (now (out .exit)) ≡ ffSectionRows section (now (image .entry)) key (now (out .entry)) ⌝ }
@@ -17,8 +16,8 @@ fn rows_keyed(section: Section, image: &[u8], key: FfVsKey, out: &mut u32) -> u3
     if image_refused(image) {
         return 9;
     }
-    let shape = section_shape(section, key, NO_TEXTURES);
-    *out = shape.rows as u32;
+    let rows = sections::section_rows(section, key, NO_TEXTURES);
+    *out = rows as u32;
     0
 }
 

@@ -11,19 +11,19 @@ use Rattle.d3d9_types.specs.declared.matrix.D3DMATRIX.{D3DMATRIX}
 use Rattle.d3d9_types.specs.declared.light.D3DLIGHT9.{D3DLIGHT9}
 use Rattle.light_table.specs.Active.{masksOf}
 use Rattle.ff_state.specs.Inputs.{sameInputs}
-use Rattle.ff_state.specs.declared.sections.Section.{Section}
-use Rattle.ff_state.specs.declared.sections.Section.the-variants.{Wv, Proj, Material, Lights, Palette, Tt}
+use Rattle.sections.specs.declared.sections.Section.{Section}
+use Rattle.sections.specs.declared.sections.Section.the-variants.{Wv, Proj, Material, Lights, Palette, Tt}
 use Rattle.ff_state.specs.declared.state.FfState.{FfState}
 use Rattle.rows.specs.Rows.{floats}
 use Rattle.rows.specs.Matrices.{projectionRows, worldViewRows, paletteRows}
 use Rattle.rows.specs.Material.{materialRows}
 use Rattle.light_rows.specs.Light.{lightsRows}
 use Rattle.sections.specs.Counts.{places, materialCount, lightCount, paletteMatrices, paletteCount}
-use Rattle.sections.specs.Key.{SameShape, noTextures}
-use Rattle.sections.specs.Shape.{sectionShape, sectionRows}
+use Rattle.sections.specs.Key.{SameShape, lightLimit}
+use Rattle.sections.specs.Counts.{sectionRows}
 use Rattle.sections.specs.declared.key.FfVsKey.{FfVsKey}
-use Rattle.packing.specs.Inputs.{Inputs, packedRows, maskAccepted, inputsOf}
-use Rattle.packing.specs.Pack.{Outcome, outcome, packInputs, packSection}
+use Rattle.packing.specs.Inputs.{Inputs, packedRows, maskAccepted, inputsOf, packedLights}
+use Rattle.packing.specs.Pack.{Outcome, outcome, packInputs, packSection, inputRows, stateCount}
 use Rattle.packing.specs.declared.answer.PackAnswer.the-variants.{Packed, WrongLength, WrongMask}
 
 -- an outcome by its three parts
@@ -38,7 +38,7 @@ module _ (s t : FfState) (k : FfVsKey) where
   same-rows Wv e = ap₂ worldViewRows (e .0) (e .1)
   same-rows Proj e = ap projectionRows e
   same-rows Material e = ap (materialRows (k .«lighting_enabled») (k .«specular_enable»)) e
-  same-rows Lights e = ap₂ (λ (v : D3DMATRIX) (ls : List D3DLIGHT9). cond (eqb (k .«light_active_mask») 0) [] (lightsRows v (take 8 ls))) (e .0) (e .1)
+  same-rows Lights e = ap₂ (λ (v : D3DMATRIX) (ls : List D3DLIGHT9). cond (eqb (k .«light_active_mask») 0) [] (lightsRows v (take (lightLimit k) ls))) (e .0) (e .1)
   same-rows Palette e = ap₂ (λ (v : D3DMATRIX) (ms : List D3DMATRIX). paletteRows v (take (paletteMatrices k) ms)) (e .0) (e .1)
   same-rows Tt e = refl
 
@@ -48,13 +48,13 @@ module _ (s t : FfState) (k : FfVsKey) where
   same-accepted Proj e = refl
   same-accepted Material e = refl
   same-accepted Lights e =
-      ap (λ (ls : List D3DLIGHT9). eqb (k .«light_active_mask») 0 || eqb (k .«light_active_mask») (masksOf (take 8 ls) .active)) (e .1)
+      ap (λ (ls : List D3DLIGHT9). eqb (k .«light_active_mask») 0 || eqb (k .«light_active_mask») (masksOf (take (lightLimit k) ls) .active)) (e .1)
   same-accepted Palette e = refl
   same-accepted Tt e = refl
 
   pub same-packing : (σ : Section) → sameInputs σ s t → (dst : List Float) → packSection σ s k dst ≡ packSection σ t k dst
   unfolding packSection packInputs
-  same-packing σ e dst = ap₂ (outcomeOf dst (sectionRows σ k noTextures)) (same-accepted σ e) (same-rows σ e)
+  same-packing σ e dst = ap₂ (outcomeOf dst (stateCount σ s k)) (same-accepted σ e) (same-rows σ e)
 
 -- ---- the key
 
@@ -64,14 +64,14 @@ module _ {k l : FfVsKey} (e : SameShape k l) where
   same-matrices =
       ap₂ (λ (n : ℕ) (i : Bool). cond (eqb n 0) 0 (cond i 40 n)) (e .vertex-blend-count) (e .vertex-blend-indexed)
 
-  pub shape-count : (σ : Section) → sectionRows σ k noTextures ≡ sectionRows σ l noTextures
-  unfolding sectionShape materialCount lightCount paletteCount
-  shape-count Wv = refl
-  shape-count Proj = refl
-  shape-count Material = ap₂ (λ (a b : Bool). cond a (cond b 5 4) 1) (e .lighting-enabled) (e .specular-enable)
-  shape-count Lights = ap (λ (m : ℕ). places m * 6) (e .light-active-mask)
-  shape-count Palette = ap (λ (n : ℕ). n * 4) same-matrices
-  shape-count Tt = refl
+  pub shape-count : (σ : Section) (t : ℕ) → sectionRows σ k t ≡ sectionRows σ l t
+  unfolding materialCount lightCount paletteCount
+  shape-count Wv t = refl
+  shape-count Proj t = refl
+  shape-count Material t = ap₂ (λ (a b : Bool). cond a (cond b 5 4) 1) (e .lighting-enabled) (e .specular-enable)
+  shape-count Lights t = ap (λ (m : ℕ). places m * 6) (e .light-active-mask)
+  shape-count Palette t = ap (λ (n : ℕ). n * 4) same-matrices
+  shape-count Tt t = refl
 
   module _ (i : Inputs) where
     pub shape-rows : (σ : Section) → packedRows σ k i ≡ packedRows σ l i
@@ -79,7 +79,7 @@ module _ {k l : FfVsKey} (e : SameShape k l) where
     shape-rows Wv = refl
     shape-rows Proj = refl
     shape-rows Material = ap₂ (λ (a b : Bool). materialRows a b (i .material)) (e .lighting-enabled) (e .specular-enable)
-    shape-rows Lights = ap (λ (m : ℕ). cond (eqb m 0) [] (lightsRows (i .view) (i .lights))) (e .light-active-mask)
+    shape-rows Lights = ap (λ (m : ℕ). cond (eqb m 0) [] (lightsRows (i .view) (packedLights l i))) (e .light-active-mask)
     shape-rows Palette = ap (λ (n : ℕ). paletteRows (i .view) (take n (i .palette))) same-matrices
     shape-rows Tt = refl
 
@@ -88,7 +88,7 @@ module _ {k l : FfVsKey} (e : SameShape k l) where
     shape-accepted Wv = refl
     shape-accepted Proj = refl
     shape-accepted Material = refl
-    shape-accepted Lights = ap (λ (m : ℕ). eqb m 0 || eqb m (masksOf (i .lights) .active)) (e .light-active-mask)
+    shape-accepted Lights = ap (λ (m : ℕ). eqb m 0 || eqb m (masksOf (packedLights l i) .active)) (e .light-active-mask)
     shape-accepted Palette = refl
     shape-accepted Tt = refl
 
@@ -96,5 +96,5 @@ module _ {k l : FfVsKey} (e : SameShape k l) where
     pub shape-packing : (σ : Section) (dst : List Float) → packInputs σ k i dst ≡ packInputs σ l i dst
     unfolding packInputs
     shape-packing σ dst =
-        ap₂ (outcomeOf dst (sectionRows σ k noTextures)) (shape-accepted σ) (shape-rows σ)
-        ∙ ap (λ (n : ℕ). outcomeOf dst n (maskAccepted σ l i) (packedRows σ l i)) (shape-count σ)
+        ap₂ (outcomeOf dst (inputRows σ k i)) (shape-accepted σ) (shape-rows σ)
+        ∙ ap (λ (n : ℕ). outcomeOf dst n (maskAccepted σ l i) (packedRows σ l i)) (shape-count σ (i .textureMask))

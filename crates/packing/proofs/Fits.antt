@@ -11,7 +11,7 @@ use Rattle.d3d9_types.specs.Matrix.{rowFits, matrixFits}
 use Rattle.d3d9_types.specs.Material.{materialFits}
 use Rattle.d3d9_types.specs.Light.{defaultLight, lightFits}
 use Rattle.d3d9_types.specs.declared.light.D3DLIGHT9.{D3DLIGHT9}
-use Rattle.light_table.specs.Bits.{hasBit}
+use Rattle.words.specs.Bits.{hasBit}
 use Rattle.light_table.specs.Entry.{zeroEntry}
 use Rattle.light_table.specs.Overflow.{usedCount}
 use Rattle.light_table.specs.Active.{slotsFrom, isActive, activeOverflow}
@@ -19,15 +19,16 @@ use Rattle.light_table.specs.declared.entry.OverflowLight.{OverflowLight}
 use Rattle.ff_state.specs.Active.{lightActiveMask, activeLights}
 use Rattle.ff_state.specs.Overflow.{used}
 use Rattle.ff_state.specs.Valid.{Valid}
-use Rattle.ff_state.specs.declared.sections.Section.{Section}
-use Rattle.ff_state.specs.declared.sections.Section.the-variants.{Wv, Proj, Material, Lights, Palette, Tt}
+use Rattle.sections.specs.declared.sections.Section.{Section}
+use Rattle.sections.specs.declared.sections.Section.the-variants.{Wv, Proj, Material, Lights, Palette, Tt}
 use Rattle.ff_state.specs.declared.state.FfState.{FfState}
 use Rattle.rows.specs.Rows.{floats}
 use Rattle.rows.proofs.Fits.{Each, each-append, floats-fit, projection-fits, world-view-fits, palette-fits, material-fits}
 use Rattle.light_rows.specs.Light.{lightsRows}
 use Rattle.light_rows.proofs.Fits.{lights-fit}
 use Rattle.sections.specs.declared.key.FfVsKey.{FfVsKey}
-use Rattle.packing.specs.Inputs.{Inputs, packedRows, inputsOf}
+use Rattle.packing.specs.Inputs.{Inputs, packedRows, inputsOf, packedLights}
+use Rattle.sections.specs.Key.{lightLimit}
 
 -- what the rows take over as it is; the products are rounded
 pub record InputsFit (i : Inputs) : Type 0 where
@@ -35,13 +36,19 @@ pub record InputsFit (i : Inputs) : Type 0 where
   pub material : materialFits (i .material)
   pub lights : Each lightFits (i .lights)
 
+each-take : {A : Type 0} (P : A → Type 0) (n : ℕ) (xs : List A) → Each P xs → Each P (take n xs)
+each-take P zero xs p = tt
+each-take P (suc n) [] p = tt
+each-take P (suc n) (x ∷ xs) p = (p .0, each-take P n xs (p .1))
+
 rows-fit : (k : FfVsKey) (i : Inputs) → InputsFit i → (σ : Section) → Each rowFits (packedRows σ k i)
 unfolding packedRows
 rows-fit k i h Wv = world-view-fits (i .view) _
 rows-fit k i h Proj = projection-fits (h .projection)
 rows-fit k i h Material = material-fits (k .«lighting_enabled») (k .«specular_enable») (h .material)
 rows-fit k i h Lights =
-    branch (Each rowFits) (eqb (k .«light_active_mask») 0) [] (lightsRows (i .view) (i .lights)) (λ none. tt) (λ some. lights-fit (i .view) (i .lights) (h .lights))
+    branch (Each rowFits) (eqb (k .«light_active_mask») 0) [] (lightsRows (i .view) (packedLights k i)) (λ none. tt)
+    (λ some. lights-fit (i .view) (packedLights k i) (each-take lightFits (lightLimit k) (i .lights) (h .lights)))
 rows-fit k i h Palette = palette-fits (i .view) _
 rows-fit k i h Tt = tt
 
@@ -49,11 +56,6 @@ pub packed-fit : (k : FfVsKey) (i : Inputs) → InputsFit i → (σ : Section) (
 packed-fit k i h σ = floats-fit (packedRows σ k i) (rows-fit k i h σ)
 
 -- ---- the inputs of a valid state
-
-each-take : {A : Type 0} (P : A → Type 0) (n : ℕ) (xs : List A) → Each P xs → Each P (take n xs)
-each-take P zero xs p = tt
-each-take P (suc n) [] p = tt
-each-take P (suc n) (x ∷ xs) p = (p .0, each-take P n xs (p .1))
 
 each-at : {A : Type 0} (P : A → Type 0) (d : A) (xs : List A) → ((i : ℕ) → i < length xs → P (getD xs i d)) → Each P xs
 each-at P d [] p = tt
@@ -75,7 +77,7 @@ entries-fit (e ∷ es) p =
 
 module _ {s : FfState} (v : Valid s) where
   active-fit : Each lightFits (activeLights s)
-  unfolding activeLights used
+  unfolding activeLights
   active-fit =
       let slots = each-at lightFits defaultLight (s .lights) (λ i h. v .floats .lights i (rw (v .lights-length) at h)) in
       let entries = each-at (λ e. lightFits (e .light)) zeroEntry (s .«overflow_lights») (λ i h. v .floats .overflow i (rw (v .overflow-length) at h)) in
@@ -88,5 +90,5 @@ module _ {s : FfState} (v : Valid s) where
       record {
         projection = v .floats .projection;
         material = v .floats .material;
-        lights = each-take lightFits 8 (activeLights s) active-fit;
+        lights = active-fit;
       }

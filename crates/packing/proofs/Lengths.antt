@@ -14,23 +14,20 @@ use borrow.Author.Tests.{eqb-true}
 use Rattle.d3d9_types.specs.declared.material.D3DMATERIAL9.{D3DMATERIAL9}
 use Rattle.d3d9_types.specs.declared.light.D3DLIGHT9.{D3DLIGHT9}
 use Rattle.light_table.specs.Active.{lowBits, masksOf}
-use Rattle.ff_state.specs.Active.{activeLights}
 use Rattle.ff_state.specs.Valid.{Valid}
 use Rattle.ff_state.specs.declared.state.FfState.{FfState}
-use Rattle.ff_state.specs.declared.sections.Section.{Section}
-use Rattle.ff_state.specs.declared.sections.Section.the-variants.{Wv, Proj, Material, Lights, Palette, Tt}
+use Rattle.sections.specs.declared.sections.Section.{Section}
+use Rattle.sections.specs.declared.sections.Section.the-variants.{Wv, Proj, Material, Lights, Palette, Tt}
 use Rattle.rows.specs.Rows.{floats}
 use Rattle.rows.specs.Matrices.{projectionRows, worldViewRows, paletteRows}
 use Rattle.rows.specs.Material.{materialRows}
 use Rattle.rows.proofs.Floats.{length-floats, length-rowsOf}
 use Rattle.light_rows.specs.Light.{lightRows, sixRows, lightsRows}
 use Rattle.sections.specs.Counts.{places, materialCount, lightCount, paletteMatrices, paletteCount, textureCount}
-use Rattle.sections.specs.Key.{noTextures}
-use Rattle.sections.specs.Shape.{sectionShape, sectionRows}
 use Rattle.sections.specs.declared.key.FfVsKey.{FfVsKey}
 use Rattle.sections.proofs.Bounds.{matrices-most}
-use Rattle.packing.specs.Inputs.{Inputs, packedRows, maskAccepted, inputsOf}
-use Rattle.packing.specs.Pack.{stateRows}
+use Rattle.packing.specs.Inputs.{Inputs, packedLights, packedRows, maskAccepted, inputsOf}
+use Rattle.packing.specs.Pack.{stateRows, inputRows, stateCount}
 
 -- the n lowest bits take n places
 pub places-low : (n : ℕ) → n ≤ 8 → places (lowBits n) ≡ n
@@ -53,27 +50,27 @@ material-rows false sp m = refl
 pub few : (ls : List D3DLIGHT9) → length (take 8 ls) ≤ 8
 few ls = simp length-take (min-le-left 8 (length ls))
 
--- what the key and the inputs have to be: u8 numbers, 256 world matrices, eight lights at most
+-- what the key and the inputs have to be: u8 numbers, 256 world matrices, no texture stage
 pub record Sized (k : FfVsKey) (i : Inputs) : Type 0 where
   pub count : k .«vertex_blend_count» < 256
   pub palette : length (i .palette) ≡ 256
-  pub lights : length (i .lights) ≤ 8
+  pub textures : i .textureMask ≡ 0
 
 module _ (k : FfVsKey) (i : Inputs) (z : Sized k i) where
-  pub lights-length : k .«light_active_mask» ≡ lowBits (length (i .lights)) → 6 * length (i .lights) ≡ lightCount k
+  pub lights-length : k .«light_active_mask» ≡ lowBits (length (packedLights k i)) → 6 * length (packedLights k i) ≡ lightCount k
   unfolding lightCount
-  lights-length e = rw (e, places-low (length (i .lights)) (z .lights)) (mul-comm 6 (length (i .lights)))
+  lights-length e = rw (e, places-low (length (packedLights k i)) (few (i .lights))) (mul-comm 6 (length (packedLights k i)))
 
-  lights-rows : (none : Bool) → eqb (k .«light_active_mask») 0 ≡ none → (none || eqb (k .«light_active_mask») (masksOf (i .lights) .active)) ≡ true
-      → length (cond none [] (lightsRows (i .view) (i .lights))) ≡ lightCount k
+  lights-rows : (none : Bool) → eqb (k .«light_active_mask») 0 ≡ none → (none || eqb (k .«light_active_mask») (masksOf (packedLights k i) .active)) ≡ true
+      → length (cond none [] (lightsRows (i .view) (packedLights k i))) ≡ lightCount k
   unfolding lightCount lightsRows masksOf
   lights-rows true e m = rw (eqb-true (k .«light_active_mask») 0 e, places-none)
   lights-rows false e m =
-      length-rowsOf (λ l. sixRows (lightRows (i .view) l)) 6 (λ l. refl) (i .lights)
-      ∙ lights-length (eqb-true (k .«light_active_mask») (lowBits (length (i .lights))) m)
+      length-rowsOf (λ l. sixRows (lightRows (i .view) l)) 6 (λ l. refl) (packedLights k i)
+      ∙ lights-length (eqb-true (k .«light_active_mask») (lowBits (length (packedLights k i))) m)
 
-  pub rows-length : (σ : Section) → maskAccepted σ k i ≡ true → length (packedRows σ k i) ≡ sectionRows σ k noTextures
-  unfolding packedRows maskAccepted sectionShape worldViewRows projectionRows materialCount paletteRows paletteCount textureCount
+  pub rows-length : (σ : Section) → maskAccepted σ k i ≡ true → length (packedRows σ k i) ≡ inputRows σ k i
+  unfolding packedRows maskAccepted worldViewRows projectionRows materialCount paletteRows paletteCount textureCount
   rows-length Wv m = refl
   rows-length Proj m = refl
   rows-length Material m = material-rows (k .«lighting_enabled») (k .«specular_enable») (i .material)
@@ -82,13 +79,13 @@ module _ (k : FfVsKey) (i : Inputs) (z : Sized k i) where
       length-rowsOf (worldViewRows (i .view)) 4 (λ w. refl) (take (paletteMatrices k) (i .palette))
       ∙ ap (λ (n : ℕ). 4 * n) (length-take-le (paletteMatrices k) (i .palette) (omega (arith, matrices-most k (z .count), z .palette)))
       ∙ mul-comm 4 (paletteMatrices k)
-  rows-length Tt m = rw places-none
+  rows-length Tt m = rw (z .textures, places-none)
 
   -- "4 times the section's rows"
-  pub floats-length : (σ : Section) → maskAccepted σ k i ≡ true → length (floats (packedRows σ k i)) ≡ 4 * sectionRows σ k noTextures
+  pub floats-length : (σ : Section) → maskAccepted σ k i ≡ true → length (floats (packedRows σ k i)) ≡ 4 * inputRows σ k i
   floats-length σ m = length-floats (packedRows σ k i) ∙ ap (λ (n : ℕ). 4 * n) (rows-length σ m)
 
 -- of a valid state
 pub state-length : {s : FfState} → Valid s → (k : FfVsKey) → k .«vertex_blend_count» < 256 → (σ : Section) → maskAccepted σ k (inputsOf s) ≡ true
-    → length (stateRows σ s k) ≡ 4 * sectionRows σ k noTextures
-state-length {s} v k byte σ = floats-length k (inputsOf s) (record { count = byte; palette = v .palette-length; lights = few (activeLights s) }) σ
+    → length (stateRows σ s k) ≡ 4 * stateCount σ s k
+state-length {s} v k byte σ = floats-length k (inputsOf s) (record { count = byte; palette = v .palette-length; textures = refl }) σ

@@ -9,7 +9,7 @@ use lib.ListN.{length, take}
 use borrow.Author.Tests.{eq-eqb, ne-eqb}
 use Rattle.light_table.specs.Active.{lowBits, masksOf}
 use Rattle.ff_state.specs.Active.{activeLights}
-use Rattle.ff_state.specs.declared.sections.Section.the-variants.{Lights}
+use Rattle.sections.specs.declared.sections.Section.the-variants.{Lights}
 use Rattle.ff_state.specs.declared.state.FfState.{FfState}
 use Rattle.rows.specs.Rows.{floats}
 use Rattle.light_rows.specs.Light.{lightsRows}

@@ -1,4 +1,5 @@
 -- The rows of a section over what they depend on. Document 01, 'Rows of a section'.
+use Prim.Native.Nat.{ℕ}
 use mathlib.Core.Bool.{Bool, true, cond, _||_}
 use mathlib.Core.List.{List, []}
 use lib.Dec.{eqb}
@@ -10,13 +11,14 @@ use Rattle.d3d9_types.specs.declared.light.D3DLIGHT9.{D3DLIGHT9}
 use Rattle.light_table.specs.Active.{masksOf}
 use Rattle.ff_state.specs.State.{noMatrix}
 use Rattle.ff_state.specs.Active.{activeLights}
-use Rattle.ff_state.specs.declared.sections.Section.{Section}
-use Rattle.ff_state.specs.declared.sections.Section.the-variants.{Wv, Proj, Material, Lights, Palette, Tt}
+use Rattle.sections.specs.declared.sections.Section.{Section}
+use Rattle.sections.specs.declared.sections.Section.the-variants.{Wv, Proj, Material, Lights, Palette, Tt}
 use Rattle.ff_state.specs.declared.state.FfState.{FfState}
 use Rattle.rows.specs.Matrices.{projectionRows, worldViewRows, paletteRows}
 use Rattle.rows.specs.Material.{materialRows}
 use Rattle.light_rows.specs.Light.{lightsRows}
 use Rattle.sections.specs.Counts.{paletteMatrices}
+use Rattle.sections.specs.Key.{lightLimit}
 use Rattle.sections.specs.declared.key.FfVsKey.{FfVsKey}
 
 pub record Inputs : Type 0 where
@@ -25,27 +27,34 @@ pub record Inputs : Type 0 where
   -- 256 world matrices
   pub palette : List D3DMATRIX
   pub material : D3DMATERIAL9
-  -- the compacted list, at most eight
+  -- the active lights, by ascending index
   pub lights : List D3DLIGHT9
+  -- the texture stages that are transformed
+  pub textureMask : ℕ
+
+-- the lights that are packed under a key
+abbrev pub packedLights : FfVsKey → Inputs → List D3DLIGHT9
+packedLights k i = take (lightLimit k) (i .lights)
 
 -- a mask of 0 packs no light; of texture matrices none is packed, as their mask is 0
 unfoldable pub packedRows : Section → FfVsKey → Inputs → List Row
 packedRows Wv k i = worldViewRows (i .view) (getD (i .palette) 0 noMatrix)
 packedRows Proj k i = projectionRows (i .projection)
 packedRows Material k i = materialRows (k .«lighting_enabled») (k .«specular_enable») (i .material)
-packedRows Lights k i = cond (eqb (k .«light_active_mask») 0) [] (lightsRows (i .view) (i .lights))
+packedRows Lights k i = cond (eqb (k .«light_active_mask») 0) [] (lightsRows (i .view) (packedLights k i))
 packedRows Palette k i = paletteRows (i .view) (take (paletteMatrices k) (i .palette))
 packedRows Tt k i = []
 
 -- refused 5: "the light mask is not 0 and is not the compacted active mask"; only the lights' section looks at it
 unfoldable pub maskAccepted : Section → FfVsKey → Inputs → Bool
-maskAccepted Lights k i = eqb (k .«light_active_mask») 0 || eqb (k .«light_active_mask») (masksOf (i .lights) .active)
+maskAccepted Lights k i = eqb (k .«light_active_mask») 0 || eqb (k .«light_active_mask») (masksOf (packedLights k i) .active)
 maskAccepted Wv k i = true
 maskAccepted Proj k i = true
 maskAccepted Material k i = true
 maskAccepted Palette k i = true
 maskAccepted Tt k i = true
 
+-- "The texture mask counts as 0."
 abbrev pub inputsOf : FfState → Inputs
 inputsOf s =
     record {
@@ -53,5 +62,6 @@ inputsOf s =
       projection = s .projection;
       palette = s .«world_palette»;
       material = s .material;
-      lights = take 8 (activeLights s);
+      lights = activeLights s;
+      textureMask = 0;
     }

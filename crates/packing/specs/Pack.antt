@@ -5,11 +5,10 @@ use mathlib.Core.List.{List}
 use lib.Dec.{eqb}
 use lib.Ieee.{Float}
 use lib.ListN.{length}
-use Rattle.ff_state.specs.declared.sections.Section.{Section}
+use Rattle.sections.specs.declared.sections.Section.{Section}
 use Rattle.ff_state.specs.declared.state.FfState.{FfState}
 use Rattle.rows.specs.Rows.{floats}
-use Rattle.sections.specs.Key.{noTextures}
-use Rattle.sections.specs.Shape.{sectionRows}
+use Rattle.sections.specs.Counts.{sectionRows}
 use Rattle.sections.specs.declared.key.FfVsKey.{FfVsKey}
 use Rattle.packing.specs.Inputs.{Inputs, packedRows, maskAccepted, inputsOf}
 use Rattle.packing.specs.declared.answer.PackAnswer.{PackAnswer}
@@ -23,16 +22,23 @@ pub record Outcome : Type 0 where
 abbrev pub outcome : PackAnswer → List Float → Outcome
 outcome a xs = record { answer = a; floats = xs }
 
+-- how many rows the section has, by the table
+abbrev pub inputRows : Section → FfVsKey → Inputs → ℕ
+inputRows σ k i = sectionRows σ k (i .textureMask)
+
 unfoldable pub packInputs : Section → FfVsKey → Inputs → List Float → Outcome
 packInputs σ k i dst =
-    cond (eqb (length dst) (4 * sectionRows σ k noTextures))
+    cond (eqb (length dst) (4 * inputRows σ k i))
     (cond (maskAccepted σ k i) (outcome Packed (floats (packedRows σ k i))) (outcome WrongMask dst))
     (outcome WrongLength dst)
 
 unfoldable pub packSection : Section → FfState → FfVsKey → List Float → Outcome
 packSection σ s k dst = packInputs σ k (inputsOf s) dst
 
--- the state's rows of a section under a key
+-- the state's rows of a section under a key, and how many they are
+abbrev pub stateCount : Section → FfState → FfVsKey → ℕ
+stateCount σ s k = inputRows σ k (inputsOf s)
+
 abbrev pub stateRows : Section → FfState → FfVsKey → List Float
 stateRows σ s k = floats (packedRows σ k (inputsOf s))
 

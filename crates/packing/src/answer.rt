@@ -2,12 +2,10 @@
 ghost use mathlib.Core.Path.{_≡_};
 ghost use Prim.Native.Nat.{_*_};
 ghost use lib.Dec.{eqb};
-ghost use Rattle.sections.specs.Key.{noTextures};
-ghost use Rattle.sections.specs.Shape.{sectionRows};
-use ff_state::Section;
+ghost use Rattle.sections.specs.Counts.{sectionRows};
 use sections::FfVsKey;
-use sections::NO_TEXTURES;
-use sections::section_shape;
+use sections::Section;
+use sections::section_rows;
 
 pub enum PackAnswer {
     Packed,
@@ -18,9 +16,9 @@ pub enum PackAnswer {
 }
 
 // Whether so many floats are the section's.
-pub fn is_length(section: Section, key: FfVsKey, length: usize) -> bool
-    ensures { λ r. ⌜ r ≡ eqb length (4 * sectionRows section key noTextures) ⌝ }
+pub fn is_length(section: Section, key: FfVsKey, texture_mask: u8, length: usize) -> bool
+    ensures { λ r. ⌜ r ≡ eqb length (4 * sectionRows section key «texture_mask») ⌝ }
 {
-    let shape = section_shape(section, key, NO_TEXTURES);
-    length == 4 * shape.rows as usize
+    let rows = section_rows(section, key, texture_mask);
+    length == 4 * rows as usize
 }

@@ -1,23 +1,24 @@
 // Sections other than the lights'. None of these looks at HAS_RHW.
 ghost use mathlib.Core.Path.{_≡_};
-ghost use Rattle.ff_state.specs.declared.sections.Section.the-variants.{Wv, Proj, Material, Palette, Tt};
+ghost use Rattle.sections.specs.declared.sections.Section.the-variants.{Wv, Proj, Material, Palette, Tt};
 ghost use Rattle.packing.specs.Pack.{outcome, packSection};
 use crate::answer::PackAnswer;
 use crate::answer::is_length;
 use ff_state::FfState;
-use ff_state::Section;
 use matrix::mat_mul;
 use matrix::transpose;
 use rows::write_material;
 use rows::write_matrix;
 use rows::write_palette;
 use sections::FfVsKey;
+use sections::NO_TEXTURES;
+use sections::Section;
 use sections::palette_matrices;
 
 pub fn fill_wv_section(s: FfState, key: FfVsKey, dst: &mut [f32]) -> PackAnswer
     ensures { λ r. ⌜ outcome r (now (dst .exit)) ≡ packSection Wv s key (now (dst .entry)) ⌝ }
 {
-    if !is_length(Section::Wv, key, dst.len()) {
+    if !is_length(Section::Wv, key, NO_TEXTURES, dst.len()) {
         return PackAnswer::WrongLength;
     }
     let world = s.world_palette[0];
@@ -28,7 +29,7 @@ pub fn fill_wv_section(s: FfState, key: FfVsKey, dst: &mut [f32]) -> PackAnswer
 pub fn fill_proj_section(s: FfState, key: FfVsKey, dst: &mut [f32]) -> PackAnswer
     ensures { λ r. ⌜ outcome r (now (dst .exit)) ≡ packSection Proj s key (now (dst .entry)) ⌝ }
 {
-    if !is_length(Section::Proj, key, dst.len()) {
+    if !is_length(Section::Proj, key, NO_TEXTURES, dst.len()) {
         return PackAnswer::WrongLength;
     }
     write_matrix(dst, 0, transpose(s.projection));
@@ -38,7 +39,7 @@ pub fn fill_proj_section(s: FfState, key: FfVsKey, dst: &mut [f32]) -> PackAnswe
 pub fn fill_material_section(s: FfState, key: FfVsKey, dst: &mut [f32]) -> PackAnswer
     ensures { λ r. ⌜ outcome r (now (dst .exit)) ≡ packSection Material s key (now (dst .entry)) ⌝ }
 {
-    if !is_length(Section::Material, key, dst.len()) {
+    if !is_length(Section::Material, key, NO_TEXTURES, dst.len()) {
         return PackAnswer::WrongLength;
     }
     write_material(dst, key.lighting_enabled, key.specular_enable, s.material);
@@ -48,7 +49,7 @@ pub fn fill_material_section(s: FfState, key: FfVsKey, dst: &mut [f32]) -> PackA
 pub fn fill_palette_section(s: FfState, key: FfVsKey, dst: &mut [f32]) -> PackAnswer
     ensures { λ r. ⌜ outcome r (now (dst .exit)) ≡ packSection Palette s key (now (dst .entry)) ⌝ }
 {
-    if !is_length(Section::Palette, key, dst.len()) {
+    if !is_length(Section::Palette, key, NO_TEXTURES, dst.len()) {
         return PackAnswer::WrongLength;
     }
     let palette = s.world_palette;
@@ -61,7 +62,7 @@ pub fn fill_palette_section(s: FfState, key: FfVsKey, dst: &mut [f32]) -> PackAn
 pub fn fill_tt_section(s: FfState, key: FfVsKey, dst: &mut [f32]) -> PackAnswer
     ensures { λ r. ⌜ outcome r (now (dst .exit)) ≡ packSection Tt s key (now (dst .entry)) ⌝ }
 {
-    if !is_length(Section::Tt, key, dst.len()) {
+    if !is_length(Section::Tt, key, NO_TEXTURES, dst.len()) {
         return PackAnswer::WrongLength;
     }
     PackAnswer::Packed

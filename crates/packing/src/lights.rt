@@ -1,28 +1,29 @@
 // The lights' section.
 ghost use mathlib.Core.Path.{_≡_};
-ghost use Rattle.ff_state.specs.declared.sections.Section.the-variants.{Lights};
+ghost use Rattle.sections.specs.declared.sections.Section.the-variants.{Lights};
 ghost use Rattle.packing.specs.Pack.{outcome, packSection};
 use crate::answer::PackAnswer;
 use crate::answer::is_length;
 use ff_lights::resolve_active_lights;
 use ff_state::FfState;
-use ff_state::Section;
 use light_rows::write_lights;
 use light_table::low_bits;
 use sections::FfVsKey;
+use sections::NO_TEXTURES;
+use sections::Section;
 
 // The length is tested before the mask.
 pub fn fill_lights_section(s: FfState, key: FfVsKey, dst: &mut [f32]) -> PackAnswer
     ensures { λ r. ⌜ outcome r (now (dst .exit)) ≡ packSection Lights s key (now (dst .entry)) ⌝ }
 {
-    if !is_length(Section::Lights, key, dst.len()) {
+    if !is_length(Section::Lights, key, NO_TEXTURES, dst.len()) {
         return PackAnswer::WrongLength;
     }
     let mask = key.light_active_mask;
     if mask == 0 {
         return PackAnswer::Packed;
     }
-    let list = resolve_active_lights(s, 8);
+    let list = resolve_active_lights(s, key);
     let n = list.len;
     if mask != low_bits(n) {
         return PackAnswer::WrongMask;

@@ -9,8 +9,8 @@ use crate::fill::fill_tt_section;
 use crate::fill::fill_wv_section;
 use crate::lights::fill_lights_section;
 use ff_state::FfState;
-use ff_state::Section;
 use sections::FfVsKey;
+use sections::Section;
 
 pub fn pack_section(section: Section, s: FfState, key: FfVsKey, dst: &mut [f32]) -> PackAnswer
     ensures { λ r. ⌜ outcome r (now (dst .exit)) ≡ packSection section s key (now (dst .entry)) ⌝ }

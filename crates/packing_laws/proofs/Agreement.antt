@@ -6,24 +6,21 @@ use mathlib.Core.Bool.{true}
 use mathlib.Core.Path.{_≡_, refl, sym, ap, _∙_}
 use mathlib.Core.List.{List}
 use lib.Ieee.{Float}
-use lib.ListN.{length, take, getD}
+use lib.ListN.{length, getD}
 use lib.Seq.{ext-getD}
 use Rattle.d3d9_types.specs.declared.matrix.D3DMATRIX.{D3DMATRIX}
 use Rattle.d3d9_model.specs.State.{AbstractState}
-use Rattle.d3d9_model.specs.Lights.{abstractActive}
 use Rattle.ff_state.specs.State.{noMatrix}
 use Rattle.ff_state.specs.Valid.{Valid}
-use Rattle.ff_state.specs.declared.sections.Section.{Section}
+use Rattle.sections.specs.declared.sections.Section.{Section}
 use Rattle.ff_state.specs.declared.state.FfState.{FfState}
 use Rattle.agreement.specs.Agrees.{Agrees}
 use Rattle.agreement.proofs.Active.{active-agrees}
 use Rattle.rows.specs.Rows.{floats}
 use Rattle.sections.specs.declared.key.FfVsKey.{FfVsKey}
-use Rattle.sections.specs.Key.{noTextures}
-use Rattle.sections.specs.Shape.{sectionRows}
-use Rattle.packing.proofs.Lengths.{few, rows-length}
+use Rattle.packing.proofs.Lengths.{rows-length}
 use Rattle.packing.specs.Inputs.{Inputs, packedRows, maskAccepted, inputsOf}
-use Rattle.packing.specs.Pack.{stateRows, packInputs, packSection}
+use Rattle.packing.specs.Pack.{stateRows, packInputs, packSection, inputRows}
 use Rattle.packing_laws.specs.Abstract.{matricesFrom, abstractInputs, abstractRows, abstractPack}
 
 length-matrices : (m : ℕ → D3DMATRIX) (from n : ℕ) → length (matricesFrom m from n) ≡ n
@@ -45,14 +42,14 @@ module _ {s : FfState} {a : AbstractState} (v : Valid s) (g : Agrees s a) where
       ext-getD noMatrix (s .«world_palette») (matricesFrom (a .matrix) 256 256) (v .palette-length ∙ sym (length-matrices (a .matrix) 256 256))
       (λ i h.
       let below : i < 256 = rw (v .palette-length) at h in
-      g .palette i below ∙ sym (matrices-at (a .matrix) 256 256 i below))
+      g .matrices .palette i below ∙ sym (matrices-at (a .matrix) 256 256 i below))
 
   pub inputs-agree : inputsOf s ≡ abstractInputs a
   unfolding abstractInputs
   inputs-agree =
       let palette = palette-agrees in
-      let lights = ap (take 8) (active-agrees v g) in
-      λ i. record { view = g .view i; projection = g .projection i; palette = palette i; material = g .material i; lights = lights i }
+      let lights = active-agrees v g in
+      λ i. record { view = g .matrices .view i; projection = g .matrices .projection i; palette = palette i; material = g .material i; lights = lights i; textureMask = 0 }
 
   pub rows-agree : (σ : Section) (k : FfVsKey) → stateRows σ s k ≡ floats (abstractRows σ a k)
   unfolding abstractRows
@@ -62,9 +59,9 @@ module _ {s : FfState} {a : AbstractState} (v : Valid s) (g : Agrees s a) where
   unfolding packSection abstractPack
   packing-agrees σ k dst = ap (λ (i : Inputs). packInputs σ k i dst) inputs-agree
 
--- the abstract state has 256 world matrices, and a compacted list has eight lights at most
+-- the abstract state has 256 world matrices
 pub abstract-length : (a : AbstractState) (k : FfVsKey) → k .«vertex_blend_count» < 256 → (σ : Section) → maskAccepted σ k (abstractInputs a) ≡ true
-    → length (abstractRows σ a k) ≡ sectionRows σ k noTextures
+    → length (abstractRows σ a k) ≡ inputRows σ k (abstractInputs a)
 unfolding abstractRows abstractInputs
 abstract-length a k byte σ =
-    rows-length k (abstractInputs a) (record { count = byte; palette = length-matrices (a .matrix) 256 256; lights = few (abstractActive a) }) σ
+    rows-length k (abstractInputs a) (record { count = byte; palette = length-matrices (a .matrix) 256 256; textures = refl }) σ

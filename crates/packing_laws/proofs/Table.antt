@@ -16,7 +16,7 @@ use Rattle.matrix.specs.Sum.{sumFrom}
 use Rattle.matrix.specs.Product.{dot, matMul}
 use Rattle.matrix.specs.Transposition.{transposed}
 use Rattle.matrix.specs.View.{viewTransformPoint, viewTransformDir}
-use Rattle.light_table.specs.Bits.{hasBit, withBit}
+use Rattle.words.specs.Bits.{hasBit, withBit}
 use Rattle.light_table.specs.Entry.{zeroLight, zeroEntry}
 use Rattle.light_table.specs.Kinds.{contributes}
 use Rattle.light_table.specs.Overflow.{usedCount, lowerBound, findEntry, insertedAt}
@@ -25,7 +25,6 @@ use Rattle.ff_state.specs.State.{freshState}
 use Rattle.ff_state.specs.Dirty.{dirtied}
 use Rattle.ff_state.specs.Transforms.{slotOf, placed, changeAt, setTransform, transformNumber}
 use Rattle.ff_state.specs.Slots.{setSlot, defineSlot, enableSlot}
-use Rattle.ff_state.specs.Overflow.{used}
 use Rattle.ff_state.specs.Lights.{found, replaceEntry, insertEntry, changeEntry, setLightAt, flag, setLightEnabledAt, lightNumber}
 use Rattle.ff_state.specs.Active.{lightActiveMask, activeLights, compactedLightMasks, vsSourceLightInputs}
 use Rattle.ff_state.specs.Cases.{p7, p8}
@@ -35,7 +34,6 @@ use Rattle.light_rows.specs.Floor.{smallest, floored}
 use Rattle.light_rows.specs.Direction.{lengthOf, unitDirection}
 use Rattle.light_rows.specs.Cone.{halfCosine, spotScale, coneOf}
 use Rattle.light_rows.specs.Light.{kindOf, lightRows, lightsRows}
-use Rattle.sections.specs.Shape.{sectionShape}
 use Rattle.packing.specs.Inputs.{packedRows, maskAccepted}
 use Rattle.packing.specs.Pack.{packInputs, packSection}
 use Rattle.sections.specs.Counts.{places, lightCount, paletteMatrices, paletteCount, textureCount}
@@ -53,7 +51,7 @@ at (b ∷ bs) e zero h = and-eq-true-iff b (every bs) .0 e .0
 at (b ∷ bs) e (suc i) h = at bs (and-eq-true-iff b (every bs) .0 e .1) i (le-of-suc-le-suc h)
 
 all-hold : every cases ≡ true
-unfolding cases p1 p2 p3 p4 p5 p6 p7 p8 p9 p10 p11 p12 packed crowded packSection packInputs packedRows maskAccepted sectionShape ffVsRowCount lightingReach textureReach paletteReach lightCount paletteCount paletteMatrices textureCount places leadingZeros floats rowsOf worldViewRows lightsRows lightRows kindOf unitDirection lengthOf floored smallest coneOf spotScale halfCosine cosOf cosFolded folded polynomial horner fraction magnitude turn halfTurn quarterTurn larger sqrtOf rootOf nearestRoot floorRoot rootFrom matMul dot transposed viewTransformPoint viewTransformDir column row sumFrom add sub mul div rem neg lt isNan ofInt ofBits toBits setTransform changeAt slotOf placed transformNumber setLightAt setLightEnabledAt flag changeEntry insertEntry replaceEntry found setSlot enableSlot defineSlot dirtied vsSourceLightInputs compactedLightMasks activeLights lightActiveMask used slotsFrom activeOverflow masksOf lowBits kindMask fourBytes insertedAt findEntry lowerBound usedCount withBit hasBit contributes lightNumber zeroEntry zeroLight freshState identity defaultLight
+unfolding cases p1 p2 p3 p4 p5 p6 p7 p8 p9 p10 p11 p12 packed crowded packSection packInputs packedRows maskAccepted ffVsRowCount lightingReach textureReach paletteReach lightCount paletteCount paletteMatrices textureCount places leadingZeros floats rowsOf worldViewRows lightsRows lightRows kindOf unitDirection lengthOf floored smallest coneOf spotScale halfCosine cosOf cosFolded folded polynomial horner fraction magnitude turn halfTurn quarterTurn larger sqrtOf rootOf nearestRoot floorRoot rootFrom matMul dot transposed viewTransformPoint viewTransformDir column row sumFrom add sub mul div rem neg lt isNan ofInt ofBits toBits setTransform changeAt slotOf placed transformNumber setLightAt setLightEnabledAt flag changeEntry insertEntry replaceEntry found setSlot enableSlot defineSlot dirtied vsSourceLightInputs compactedLightMasks activeLights lightActiveMask slotsFrom activeOverflow masksOf lowBits kindMask fourBytes insertedAt findEntry lowerBound usedCount withBit hasBit contributes lightNumber zeroEntry zeroLight freshState identity defaultLight
 all-hold = refl
 
 -- P n is case n − 1 of the list

@@ -2,12 +2,11 @@
 use Prim.Native.Nat.{ℕ, zero, suc}
 use mathlib.Core.List.{List, [], _∷_}
 use lib.Ieee.{Float}
-use lib.ListN.{take}
 use Rattle.d3d9_types.specs.declared.matrix.Row.{Row}
 use Rattle.d3d9_types.specs.declared.matrix.D3DMATRIX.{D3DMATRIX}
 use Rattle.d3d9_model.specs.State.{AbstractState}
 use Rattle.d3d9_model.specs.Lights.{abstractActive}
-use Rattle.ff_state.specs.declared.sections.Section.{Section}
+use Rattle.sections.specs.declared.sections.Section.{Section}
 use Rattle.sections.specs.declared.key.FfVsKey.{FfVsKey}
 use Rattle.packing.specs.Inputs.{Inputs, packedRows}
 use Rattle.packing.specs.Pack.{Outcome, packInputs}
@@ -25,7 +24,8 @@ abstractInputs a =
       projection = a .matrix 3;
       palette = matricesFrom (a .matrix) 256 256;
       material = a .material;
-      lights = take 8 (abstractActive a);
+      lights = abstractActive a;
+      textureMask = 0;
     }
 
 -- the rows of a section under a key

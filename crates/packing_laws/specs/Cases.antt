@@ -15,14 +15,13 @@ use Rattle.ff_state.specs.State.{freshState}
 use Rattle.ff_state.specs.Transforms.{setTransform}
 use Rattle.ff_state.specs.Lights.{setLightAt, setLightEnabledAt, lightNumber}
 use Rattle.ff_state.specs.Cases.{lightOf, p7, p8}
-use Rattle.ff_state.specs.declared.sections.Section.{Section}
-use Rattle.ff_state.specs.declared.sections.Section.the-variants.{Wv, Lights}
+use Rattle.sections.specs.declared.sections.Section.{Section}
+use Rattle.sections.specs.declared.sections.Section.the-variants.{Wv, Lights}
 use Rattle.ff_state.specs.declared.state.FfState.{FfState}
-use Rattle.sections.specs.Key.{noTextures}
-use Rattle.sections.specs.Shape.{sectionRows}
 use Rattle.sections.specs.RowCount.{ffVsRowCount}
 use Rattle.sections.specs.declared.key.FfVsKey.{FfVsKey}
-use Rattle.packing.specs.Pack.{packSection}
+use Rattle.packing.specs.Pack.{packSection, stateCount}
+use Rattle.packing.specs.Inputs.{inputsOf}
 
 -- HAS_RHW, LIGHTING_ENABLED, SPECULAR_ENABLE, VERTEX_BLEND_INDEXED, light_active_mask, vertex_blend_count
 abbrev keyOf : Bool → Bool → Bool → Bool → ℕ → ℕ → FfVsKey
@@ -38,7 +37,7 @@ keyOf rhw lit specular indexed mask count =
     }
 
 abbrev rows : FfVsKey → ℕ → Bool
-rows k n = eqb (ffVsRowCount k noTextures) n
+rows k n = eqb (ffVsRowCount k (inputsOf freshState .textureMask)) n
 
 -- "P1 unlit row count 11."
 unfoldable pub p1 : Bool
@@ -78,7 +77,7 @@ p9 = eqb (taken 55) 0 && eqb (taken 56) 3
 
 -- the bits of a section, packed into zeros
 unfoldable pub packed : Section → FfState → FfVsKey → List ℕ
-packed σ s k = map (toBits binary32) (packSection σ s k (replicate (4 * sectionRows σ k noTextures) Numbers.zero) .floats)
+packed σ s k = map (toBits binary32) (packSection σ s k (replicate (4 * stateCount σ s k) Numbers.zero) .floats)
 
 -- the four floats of row r have these bits
 abbrev rowIs : List ℕ → ℕ → ℕ → ℕ → ℕ → ℕ → Bool

@@ -12,35 +12,34 @@ use lib.ListN.{length, getD}
 use borrow.Author.Tests.{ltb-true, ltb-false}
 use Rattle.lemmas.proofs.Tests.{never}
 use Rattle.lemmas.proofs.Branch.{branch}
-use Rattle.ff_state.specs.Sections.{sections, hasSection}
-use Rattle.ff_state.specs.declared.sections.Section.{Section}
-use Rattle.ff_state.specs.declared.sections.Section.the-variants.{Wv, Proj, Material, Lights, Palette, Tt}
+use Rattle.sections.specs.Sections.{sections, hasSection}
+use Rattle.sections.specs.declared.sections.Section.{Section}
+use Rattle.sections.specs.declared.sections.Section.the-variants.{Wv, Proj, Material, Lights, Palette, Tt}
 use Rattle.ff_state.specs.declared.state.FfState.{FfState}
-use Rattle.sections.specs.Key.{noTextures}
-use Rattle.sections.specs.Shape.{sectionShape, sectionRows, firstRow}
+use Rattle.sections.specs.Sections.{firstRow}
 use Rattle.sections.specs.declared.key.FfVsKey.{FfVsKey}
 use Rattle.sections.proofs.Tiles.{apart}
-use Rattle.packing.specs.Pack.{stateRows}
+use Rattle.packing.specs.Pack.{stateRows, stateCount}
 use Rattle.refresh.specs.Written.{put, firstFloat, writtenSection, written}
 use Rattle.refresh.proofs.Packed.{Ready, rows-length, fits}
 use Rattle.refresh.proofs.Parts.{Holds, Outside, length-put, put-holds, put-outside}
+use Rattle.packing.specs.Inputs.{inputsOf}
 
 -- ---- sections by their first rows
 
 abbrev sectionAt : ℕ → Section
 sectionAt n = cond (eqb n 0) Wv (cond (eqb n 4) Proj (cond (eqb n 10) Material (cond (eqb n 15) Lights (cond (eqb n 95) Palette Tt))))
 
-at-first : (σ : Section) (k : FfVsKey) → sectionAt (firstRow σ k noTextures) ≡ σ
-unfolding sectionShape
-at-first Wv k = refl
-at-first Proj k = refl
-at-first Material k = refl
-at-first Lights k = refl
-at-first Palette k = refl
-at-first Tt k = refl
+at-first : (σ : Section) → sectionAt (firstRow σ) ≡ σ
+at-first Wv = refl
+at-first Proj = refl
+at-first Material = refl
+at-first Lights = refl
+at-first Palette = refl
+at-first Tt = refl
 
-pub same-first : (σ τ : Section) (k : FfVsKey) → firstRow σ k noTextures ≡ firstRow τ k noTextures → σ ≡ τ
-same-first σ τ k e = sym (at-first σ k) ∙ ap sectionAt e ∙ at-first τ k
+pub same-first : (σ τ : Section) → firstRow σ ≡ firstRow τ → σ ≡ τ
+same-first σ τ e = sym (at-first σ) ∙ ap sectionAt e ∙ at-first τ
 
 -- one of a list
 abbrev pub In : Section → List Section → Type 0
@@ -70,33 +69,33 @@ module _ {s : FfState} {k : FfVsKey} (r : Ready s k) (bits : ℕ) where
   section-length : (σ : Section) (m : List Float) → length m ≡ 4460 → length (writtenSection σ bits s k m) ≡ 4460
   unfolding writtenSection
   section-length σ m long =
-      branch (λ (x : List Float). length x ≡ 4460) (hasSection bits σ) (put (firstFloat σ k) (stateRows σ s k) m) m
-      (λ on. length-put (firstFloat σ k) (stateRows σ s k) m (omega (arith, long, fits r σ)) ∙ long)
+      branch (λ (x : List Float). length x ≡ 4460) (hasSection bits σ) (put (firstFloat σ) (stateRows σ s k) m) m
+      (λ on. length-put (firstFloat σ) (stateRows σ s k) m (omega (arith, long, fits r σ)) ∙ long)
       (λ off. long)
 
-  section-outside : (σ : Section) (m : List Float) → length m ≡ 4460 → (i : ℕ) → (hasSection bits σ ≡ true → Outside (firstFloat σ k) (length (stateRows σ s k)) i)
+  section-outside : (σ : Section) (m : List Float) → length m ≡ 4460 → (i : ℕ) → (hasSection bits σ ≡ true → Outside (firstFloat σ) (length (stateRows σ s k)) i)
       → getD (writtenSection σ bits s k m) i nan ≡ getD m i nan
   unfolding writtenSection
   section-outside σ m long i out =
-      branch (λ (x : List Float). getD x i nan ≡ getD m i nan) (hasSection bits σ) (put (firstFloat σ k) (stateRows σ s k) m) m
-      (λ on. put-outside (firstFloat σ k) (stateRows σ s k) m (omega (arith, long, fits r σ)) i (out on))
+      branch (λ (x : List Float). getD x i nan ≡ getD m i nan) (hasSection bits σ) (put (firstFloat σ) (stateRows σ s k) m) m
+      (λ on. put-outside (firstFloat σ) (stateRows σ s k) m (omega (arith, long, fits r σ)) i (out on))
       (λ off. refl)
 
-  section-holds : (σ : Section) (m : List Float) → length m ≡ 4460 → hasSection bits σ ≡ true → Holds (writtenSection σ bits s k m) (firstFloat σ k) (stateRows σ s k)
+  section-holds : (σ : Section) (m : List Float) → length m ≡ 4460 → hasSection bits σ ≡ true → Holds (writtenSection σ bits s k m) (firstFloat σ) (stateRows σ s k)
   unfolding writtenSection
-  section-holds σ m long on = rw on (put-holds (firstFloat σ k) (stateRows σ s k) m (omega (arith, long, fits r σ)))
+  section-holds σ m long on = rw on (put-holds (firstFloat σ) (stateRows σ s k) m (omega (arith, long, fits r σ)))
 
   -- what lies in another section's place stays
-  other-holds : (σ τ : Section) → (hasSection bits τ ≡ true → σ ≡ τ → ⊥) → (m p : List Float) → length m ≡ 4460 → length p ≡ 4 * sectionRows σ k noTextures
-      → Holds m (firstFloat σ k) p → Holds (writtenSection τ bits s k m) (firstFloat σ k) p
-  other-holds σ τ another m p long full h j small = section-outside τ m long (firstFloat σ k + j) out ∙ h j small
+  other-holds : (σ τ : Section) → (hasSection bits τ ≡ true → σ ≡ τ → ⊥) → (m p : List Float) → length m ≡ 4460 → length p ≡ 4 * stateCount σ s k
+      → Holds m (firstFloat σ) p → Holds (writtenSection τ bits s k m) (firstFloat σ) p
+  other-holds σ τ another m p long full h j small = section-outside τ m long (firstFloat σ + j) out ∙ h j small
     where
-      out : hasSection bits τ ≡ true → Outside (firstFloat τ k) (length (stateRows τ s k)) (firstFloat σ k + j)
+      out : hasSection bits τ ≡ true → Outside (firstFloat τ) (length (stateRows τ s k)) (firstFloat σ + j)
       out on =
-          three (firstRow σ k noTextures) (firstRow τ k noTextures)
-          (λ before. inl (omega (arith, full, small, apart k noTextures (r .count) σ τ before)))
-          (λ behind. inr (omega (arith, rows-length r τ, apart k noTextures (r .count) τ σ behind)))
-          (λ same. absurd (another on (same-first σ τ k same)))
+          three (firstRow σ) (firstRow τ)
+          (λ before. inl (omega (arith, full, small, apart k (inputsOf s .textureMask) (r .count) σ τ before)))
+          (λ behind. inr (omega (arith, rows-length r τ, apart k (inputsOf s .textureMask) (r .count) τ σ behind)))
+          (λ same. absurd (another on (same-first σ τ same)))
 
   -- ---- a list of them
 
@@ -105,15 +104,15 @@ module _ {s : FfState} {k : FfVsKey} (r : Ready s k) (bits : ℕ) where
   written-length [] m long = long
   written-length (σ ∷ σs) m long = written-length σs (writtenSection σ bits s k m) (section-length σ m long)
 
-  pub written-outside : (σs : List Section) (m : List Float) → length m ≡ 4460 → (i : ℕ) → ((σ : Section) → hasSection bits σ ≡ true → Outside (firstFloat σ k) (length (stateRows σ s k)) i)
+  pub written-outside : (σs : List Section) (m : List Float) → length m ≡ 4460 → (i : ℕ) → ((σ : Section) → hasSection bits σ ≡ true → Outside (firstFloat σ) (length (stateRows σ s k)) i)
       → getD (written σs bits s k m) i nan ≡ getD m i nan
   unfolding written
   written-outside [] m long i out = refl
   written-outside (σ ∷ σs) m long i out = written-outside σs (writtenSection σ bits s k m) (section-length σ m long) i out ∙ section-outside σ m long i (out σ)
 
   -- a section that the bits do not name holds what it held
-  pub written-off : (σs : List Section) (σ : Section) → hasSection bits σ ≡ false → (m p : List Float) → length m ≡ 4460 → length p ≡ 4 * sectionRows σ k noTextures
-      → Holds m (firstFloat σ k) p → Holds (written σs bits s k m) (firstFloat σ k) p
+  pub written-off : (σs : List Section) (σ : Section) → hasSection bits σ ≡ false → (m p : List Float) → length m ≡ 4460 → length p ≡ 4 * stateCount σ s k
+      → Holds m (firstFloat σ) p → Holds (written σs bits s k m) (firstFloat σ) p
   unfolding written
   written-off [] σ off m p long full h = h
   written-off (τ ∷ τs) σ off m p long full h =
@@ -122,23 +121,23 @@ module _ {s : FfState} {k : FfVsKey} (r : Ready s k) (bits : ℕ) where
 
   -- one that they name is not written over by those behind it, nor by itself
   stays : (σs : List Section) (σ : Section) → hasSection bits σ ≡ true → (m : List Float) → length m ≡ 4460
-      → Holds m (firstFloat σ k) (stateRows σ s k) → Holds (written σs bits s k m) (firstFloat σ k) (stateRows σ s k)
+      → Holds m (firstFloat σ) (stateRows σ s k) → Holds (written σs bits s k m) (firstFloat σ) (stateRows σ s k)
   unfolding written
   stays [] σ on m long h = h
   stays (τ ∷ τs) σ on m long h = stays τs σ on (writtenSection τ bits s k m) (section-length τ m long) again
     where
-      again : Holds (writtenSection τ bits s k m) (firstFloat σ k) (stateRows σ s k)
+      again : Holds (writtenSection τ bits s k m) (firstFloat σ) (stateRows σ s k)
       again =
-          three (firstRow σ k noTextures) (firstRow τ k noTextures)
-          (λ before. other-holds σ τ (λ q e. absurd (omega (arith, before, ap (λ (x : Section). firstRow x k noTextures) e))) m (stateRows σ s k) long (rows-length r σ) h)
-          (λ behind. other-holds σ τ (λ q e. absurd (omega (arith, behind, ap (λ (x : Section). firstRow x k noTextures) e))) m (stateRows σ s k) long (rows-length r σ) h)
-          (λ same. subst (λ (x : Section). Holds (writtenSection x bits s k m) (firstFloat σ k) (stateRows σ s k)) (same-first σ τ k same) (section-holds σ m long on))
+          three (firstRow σ) (firstRow τ)
+          (λ before. other-holds σ τ (λ q e. absurd (omega (arith, before, ap (λ (x : Section). firstRow x) e))) m (stateRows σ s k) long (rows-length r σ) h)
+          (λ behind. other-holds σ τ (λ q e. absurd (omega (arith, behind, ap (λ (x : Section). firstRow x) e))) m (stateRows σ s k) long (rows-length r σ) h)
+          (λ same. subst (λ (x : Section). Holds (writtenSection x bits s k m) (firstFloat σ) (stateRows σ s k)) (same-first σ τ same) (section-holds σ m long on))
 
   pub written-on : (σs : List Section) (σ : Section) → In σ σs → hasSection bits σ ≡ true → (m : List Float) → length m ≡ 4460
-      → Holds (written σs bits s k m) (firstFloat σ k) (stateRows σ s k)
+      → Holds (written σs bits s k m) (firstFloat σ) (stateRows σ s k)
   unfolding written
   written-on [] σ is on m long = absurd is
   written-on (τ ∷ τs) σ (inl e) on m long =
       stays τs σ on (writtenSection τ bits s k m) (section-length τ m long)
-      (subst (λ (x : Section). Holds (writtenSection x bits s k m) (firstFloat σ k) (stateRows σ s k)) e (section-holds σ m long on))
+      (subst (λ (x : Section). Holds (writtenSection x bits s k m) (firstFloat σ) (stateRows σ s k)) e (section-holds σ m long on))
   written-on (τ ∷ τs) σ (inr is) on m long = written-on τs σ is on (writtenSection τ bits s k m) (section-length τ m long)

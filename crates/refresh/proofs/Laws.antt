@@ -1,23 +1,19 @@
 -- What an accepted refresh leaves: each section that was dirty holds its packing, all else in the mirror stands, no bit is dirty, and the state packs as before. A refused one changes nothing.
 -- Assumes nothing.
 use Prim.Native.Nat.{ℕ, _*_, _<_}
-use mathlib.Core.Path.{_≡_, refl, sym, ap, subst, _∙_}
+use mathlib.Core.Path.{_≡_, sym, ap, subst, _∙_}
 use mathlib.Core.Bool.{true, false}
 use mathlib.Core.List.{List}
 use lib.Ieee.{Float, nan}
 use lib.ListN.{length, getD}
-use Rattle.light_table.specs.Bits.{hasBit}
 use Rattle.ff_state.specs.Dirty.{takeFfVsDirty}
-use Rattle.ff_state.specs.Inputs.{sameInputs, takes, changed}
-use Rattle.ff_state.specs.Sections.{sections, hasSection}
-use Rattle.ff_state.specs.declared.sections.Section.{Section}
-use Rattle.ff_state.specs.declared.sections.Section.the-variants.{Wv, Proj, Material, Lights, Palette, Tt}
+use Rattle.ff_state.specs.Inputs.{sameInputs}
+use Rattle.sections.specs.Sections.{sections, hasSection}
+use Rattle.sections.specs.declared.sections.Section.{Section}
 use Rattle.ff_state.specs.declared.state.FfState.{FfState}
-use Rattle.ff_state.proofs.Frame.{unmarked-same}
-use Rattle.sections.specs.Key.{noTextures}
-use Rattle.sections.specs.Shape.{sectionRows}
+use Rattle.ff_state.proofs.Frame.{taken-same}
 use Rattle.sections.specs.declared.key.FfVsKey.{FfVsKey}
-use Rattle.packing.specs.Pack.{stateRows}
+use Rattle.packing.specs.Pack.{stateRows, stateCount}
 use Rattle.refresh.specs.Answer.{refreshAnswer}
 use Rattle.refresh.specs.Mirror.{Outcome, refreshed, refusal, acceptance, refreshBy, refreshMirror}
 use Rattle.refresh.specs.Written.{firstFloat, written}
@@ -33,16 +29,6 @@ pub refused-same : (s : FfState) (k : FfVsKey) (m : List Float) → (refreshAnsw
     → refreshMirror s k m ≡ refreshed (refusal (refreshAnswer s k (length m)) s) m
 unfolding refreshMirror
 refused-same s k m f = sym (refused s k (refreshAnswer s k (length m)) f m)
-
--- no bit is dirty once they are taken
-pub clear : (σ : Section) → hasSection 0 σ ≡ false
-unfolding hasBit
-clear Wv = refl
-clear Proj = refl
-clear Material = refl
-clear Lights = refl
-clear Palette = refl
-clear Tt = refl
 
 -- of a count that is a u8 and 256 world matrices
 module _ (s : FfState) (k : FfVsKey) (m : List Float) (byte : k .«vertex_blend_count» < 256) (palette : length (s .«world_palette») ≡ 256)
@@ -69,17 +55,17 @@ module _ (s : FfState) (k : FfVsKey) (m : List Float) (byte : k .«vertex_blend_
   unfolding takeFfVsDirty
   bits-taken = ap (λ (o : Outcome). o .result .bits) accepted-is
 
-  pub dirty-holds : (σ : Section) → hasSection (s .«ff_vs_dirty») σ ≡ true → Holds (refreshMirror s k m .floats) (firstFloat σ k) (stateRows σ s k)
+  pub dirty-holds : (σ : Section) → hasSection (s .«ff_vs_dirty») σ ≡ true → Holds (refreshMirror s k m .floats) (firstFloat σ) (stateRows σ s k)
   dirty-holds σ on =
-      subst (λ (x : List Float). Holds x (firstFloat σ k) (stateRows σ s k)) (sym mirror-is) (written-on ready (s .«ff_vs_dirty») sections σ (every-in σ) on m long)
+      subst (λ (x : List Float). Holds x (firstFloat σ) (stateRows σ s k)) (sym mirror-is) (written-on ready (s .«ff_vs_dirty») sections σ (every-in σ) on m long)
 
-  pub clean-holds : (σ : Section) → hasSection (s .«ff_vs_dirty») σ ≡ false → (p : List Float) → length p ≡ 4 * sectionRows σ k noTextures
-      → Holds m (firstFloat σ k) p → Holds (refreshMirror s k m .floats) (firstFloat σ k) p
+  pub clean-holds : (σ : Section) → hasSection (s .«ff_vs_dirty») σ ≡ false → (p : List Float) → length p ≡ 4 * stateCount σ s k
+      → Holds m (firstFloat σ) p → Holds (refreshMirror s k m .floats) (firstFloat σ) p
   clean-holds σ off p full h =
-      subst (λ (x : List Float). Holds x (firstFloat σ k) p) (sym mirror-is) (written-off ready (s .«ff_vs_dirty») sections σ off m p long full h)
+      subst (λ (x : List Float). Holds x (firstFloat σ) p) (sym mirror-is) (written-off ready (s .«ff_vs_dirty») sections σ off m p long full h)
 
   -- "Other rows keep their contents."
-  pub others-stay : (i : ℕ) → ((σ : Section) → hasSection (s .«ff_vs_dirty») σ ≡ true → Outside (firstFloat σ k) (length (stateRows σ s k)) i)
+  pub others-stay : (i : ℕ) → ((σ : Section) → hasSection (s .«ff_vs_dirty») σ ≡ true → Outside (firstFloat σ) (length (stateRows σ s k)) i)
       → getD (refreshMirror s k m .floats) i nan ≡ getD m i nan
   others-stay i out =
       ap (λ (x : List Float). getD x i nan) mirror-is ∙ written-outside ready (s .«ff_vs_dirty») sections m long i out
@@ -92,5 +78,4 @@ module _ (s : FfState) (k : FfVsKey) (m : List Float) (byte : k .«vertex_blend_
   none-dirty = ap (λ (t : FfState). t .«ff_vs_dirty») state-is
 
   pub inputs-stay : (σ : Section) → sameInputs σ s (refreshMirror s k m .result .state)
-  unfolding changed takeFfVsDirty
-  inputs-stay σ = subst (λ (t : FfState). sameInputs σ s t) (sym state-is) (unmarked-same s takes σ (clear σ))
+  inputs-stay σ = subst (λ (t : FfState). sameInputs σ s t) (sym state-is) (taken-same s σ)

@@ -8,18 +8,15 @@ use mathlib.Core.List.{List}
 use lib.Ieee.{Float}
 use lib.ListN.{length}
 use borrow.Author.Tests.{eq-eqb}
-use Rattle.ff_state.specs.Active.{activeLights}
-use Rattle.ff_state.specs.declared.sections.Section.{Section}
-use Rattle.ff_state.specs.declared.sections.Section.the-variants.{Wv, Proj, Material, Lights, Palette, Tt}
+use Rattle.sections.specs.declared.sections.Section.{Section}
+use Rattle.sections.specs.declared.sections.Section.the-variants.{Wv, Proj, Material, Lights, Palette, Tt}
 use Rattle.ff_state.specs.declared.state.FfState.{FfState}
-use Rattle.sections.specs.Key.{noTextures}
-use Rattle.sections.specs.Shape.{sectionRows}
 use Rattle.sections.specs.declared.key.FfVsKey.{FfVsKey}
 use Rattle.sections.proofs.Tiles.{fits-mirror}
 use Rattle.packing.specs.Inputs.{maskAccepted, inputsOf}
-use Rattle.packing.specs.Pack.{Outcome, outcome, packInputs, packSection, stateRows}
+use Rattle.packing.specs.Pack.{Outcome, outcome, packInputs, packSection, stateRows, stateCount}
 use Rattle.packing.specs.declared.answer.PackAnswer.{PackAnswer}
-use Rattle.packing.proofs.Lengths.{few, floats-length}
+use Rattle.packing.proofs.Lengths.{floats-length}
 use Rattle.refresh.specs.Written.{firstFloat}
 
 -- a state and a key of the sizes that their types have, and a mask that is accepted
@@ -41,12 +38,12 @@ module _ {s : FfState} {k : FfVsKey} (r : Ready s k) (σ : Section) where
       go Palette = refl
       go Tt = refl
 
-  pub rows-length : length (stateRows σ s k) ≡ 4 * sectionRows σ k noTextures
-  rows-length = floats-length k (inputsOf s) (record { count = r .count; palette = r .palette; lights = few (activeLights s) }) σ accepted
+  pub rows-length : length (stateRows σ s k) ≡ 4 * stateCount σ s k
+  rows-length = floats-length k (inputsOf s) (record { count = r .count; palette = r .palette; textures = refl }) σ accepted
 
-  pub fits : firstFloat σ k + length (stateRows σ s k) ≤ 4460
-  fits = omega (arith, rows-length, fits-mirror k noTextures (r .count) σ)
+  pub fits : firstFloat σ + length (stateRows σ s k) ≤ 4460
+  fits = omega (arith, rows-length, fits-mirror k (inputsOf s .textureMask) (r .count) σ)
 
-  pub packs : (a : PackAnswer) (xs dst : List Float) → length dst ≡ 4 * sectionRows σ k noTextures → outcome a xs ≡ packSection σ s k dst → xs ≡ stateRows σ s k
+  pub packs : (a : PackAnswer) (xs dst : List Float) → length dst ≡ 4 * stateCount σ s k → outcome a xs ≡ packSection σ s k dst → xs ≡ stateRows σ s k
   unfolding packSection packInputs
-  packs a xs dst long e = ap (λ (o : Outcome). o .floats) e ∙ rw (eq-eqb (length dst) (4 * sectionRows σ k noTextures) long, accepted)
+  packs a xs dst long e = ap (λ (o : Outcome). o .floats) e ∙ rw (eq-eqb (length dst) (4 * stateCount σ s k) long, accepted)

@@ -7,9 +7,9 @@ use mathlib.Core.List.{List, []}
 use lib.Ieee.{Float}
 use lib.ListN.{take-append-drop}
 use Rattle.ff_state.specs.Dirty.{takeFfVsDirty}
-use Rattle.ff_state.specs.Sections.{sections, hasSection}
+use Rattle.sections.specs.Sections.{sections, hasSection}
 use Rattle.ff_state.specs.declared.dirty.Taken.{Taken}
-use Rattle.ff_state.specs.declared.sections.Section.the-variants.{Wv, Proj, Material, Lights, Palette, Tt}
+use Rattle.sections.specs.declared.sections.Section.the-variants.{Wv, Proj, Material, Lights, Palette, Tt}
 use Rattle.ff_state.specs.declared.state.FfState.{FfState}
 use Rattle.rows.specs.Rows.{floats}
 use Rattle.sections.specs.declared.key.FfVsKey.{FfVsKey}
@@ -29,8 +29,8 @@ module _ (s : FfState) (k : FfVsKey) where
   unfolding writtenSection packedRows floats
   tt-nothing bits m = go (hasSection bits Tt)
     where
-      go : (t : Bool) → cond t (put (firstFloat Tt k) [] m) m ≡ m
-      go true = put-nothing (firstFloat Tt k) m
+      go : (t : Bool) → cond t (put (firstFloat Tt) [] m) m ≡ m
+      go true = put-nothing (firstFloat Tt) m
       go false = refl
 
   pub refused : (a : RefreshAnswer) → (a ≡ Accepted → ⊥) → (m : List Float) → refreshed (refusal a s) m ≡ refreshBy a s k m

@@ -4,11 +4,10 @@ use mathlib.Core.Bool.{cond}
 use mathlib.Core.List.{List, [], _∷_, _++_}
 use lib.Ieee.{Float}
 use lib.ListN.{length, take, drop}
-use Rattle.ff_state.specs.Sections.{hasSection}
-use Rattle.ff_state.specs.declared.sections.Section.{Section}
+use Rattle.sections.specs.Sections.{hasSection}
+use Rattle.sections.specs.declared.sections.Section.{Section}
 use Rattle.ff_state.specs.declared.state.FfState.{FfState}
-use Rattle.sections.specs.Key.{noTextures}
-use Rattle.sections.specs.Shape.{firstRow}
+use Rattle.sections.specs.Sections.{firstRow}
 use Rattle.sections.specs.declared.key.FfVsKey.{FfVsKey}
 use Rattle.packing.specs.Pack.{stateRows}
 
@@ -17,12 +16,12 @@ unfoldable pub put : ℕ → List Float → List Float → List Float
 put at vs m = take at m ++ (vs ++ drop (length vs) (drop at m))
 
 -- where a section begins in the mirror, a row being four floats
-abbrev pub firstFloat : Section → FfVsKey → ℕ
-firstFloat σ k = 4 * firstRow σ k noTextures
+abbrev pub firstFloat : Section → ℕ
+firstFloat σ = 4 * firstRow σ
 
 -- the section's packing in its place, if the bits name it
 unfoldable pub writtenSection : Section → ℕ → FfState → FfVsKey → List Float → List Float
-writtenSection σ bits s k m = cond (hasSection bits σ) (put (firstFloat σ k) (stateRows σ s k) m) m
+writtenSection σ bits s k m = cond (hasSection bits σ) (put (firstFloat σ) (stateRows σ s k) m) m
 
 -- one section after another
 unfoldable pub written : List Section → ℕ → FfState → FfVsKey → List Float → List Float

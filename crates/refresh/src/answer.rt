@@ -1,10 +1,11 @@
 // What refresh answers.
 ghost use mathlib.Core.Path.{_≡_};
-ghost use Rattle.ff_state.specs.declared.sections.Section.the-variants.{Lights};
+ghost use Rattle.sections.specs.declared.sections.Section.the-variants.{Lights};
 ghost use Rattle.packing.specs.Inputs.{maskAccepted, inputsOf};
 ghost use Rattle.refresh.specs.Answer.{refreshAnswer};
-use ff_lights::compacted_light_masks;
+use ff_lights::resolve_active_lights;
 use ff_state::FfState;
+use light_table::low_bits;
 use sections::FfVsKey;
 
 pub enum RefreshAnswer {
@@ -25,8 +26,8 @@ fn mask_accepted(s: FfState, key: FfVsKey) -> bool
     if mask == 0 {
         return true;
     }
-    let masks = compacted_light_masks(s);
-    mask == masks.active
+    let list = resolve_active_lights(s, key);
+    mask == low_bits(list.len)
 }
 
 // The refusals in document 01's order. The mask is looked at whether the lights are dirty or not.

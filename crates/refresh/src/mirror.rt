@@ -5,8 +5,8 @@ use crate::answer::RefreshAnswer;
 use crate::answer::refresh_answer;
 use crate::written::write_section;
 use ff_state::FfState;
-use ff_state::Section;
 use sections::FfVsKey;
+use sections::Section;
 
 pub struct Refreshed {
     pub answer: RefreshAnswer,

@@ -2,17 +2,18 @@
 ghost use mathlib.Core.Path.{_≡_};
 ghost use mathlib.Core.Bool.{true};
 ghost use lib.ListN.{length};
-ghost use Rattle.ff_state.specs.Sections.{hasSection};
-ghost use Rattle.ff_state.specs.declared.sections.Section.the-variants.{Lights};
+ghost use Rattle.sections.specs.Sections.{hasSection};
+ghost use Rattle.sections.specs.declared.sections.Section.the-variants.{Lights};
 ghost use Rattle.packing.specs.Inputs.{maskAccepted, inputsOf};
 ghost use Rattle.refresh.specs.Written.{writtenSection};
 use ff_state::FfState;
-use ff_state::Section;
-use ff_state::section_bit;
 use packing::pack_section;
 use sections::FfVsKey;
 use sections::NO_TEXTURES;
-use sections::section_shape;
+use sections::Section;
+use sections::first_row;
+use sections::section_bit;
+use sections::section_rows;
 
 // Whether a word of dirty bits names the section.
 pub fn has_section(bits: u32, section: Section) -> bool
@@ -28,9 +29,10 @@ pub fn write_section(section: Section, bits: u32, s: FfState, key: FfVsKey, mirr
     ensures { λ _. ⌜ now (mirror .exit) ≡ writtenSection section bits s key (now (mirror .entry)) ⌝ }
 {
     if has_section(bits, section) {
-        let shape = section_shape(section, key, NO_TEXTURES);
-        let first = 4 * shape.first_row as usize;
-        let end = first + 4 * shape.rows as usize;
+        let row = first_row(section);
+        let rows = section_rows(section, key, NO_TEXTURES);
+        let first = 4 * row as usize;
+        let end = first + 4 * rows as usize;
         pack_section(section, s, key, &mut mirror[first..end]);
     }
 }

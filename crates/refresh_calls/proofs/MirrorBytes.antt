@@ -23,9 +23,9 @@ use Rattle.codec.proofs.Put.{length-put, read-before, drop-behind}
 use Rattle.image_parts.specs.Lists.{listBytes, listAt}
 use Rattle.image_parts.proofs.Items.{length-listAt, getD-listAt, listAt-skips, listAt-starts}
 use Rattle.image.proofs.Items.{length-listBytes}
-use Rattle.ff_state.specs.Sections.{hasSection}
+use Rattle.sections.specs.Sections.{hasSection}
 use Rattle.ff_state.specs.Valid.{Valid}
-use Rattle.ff_state.specs.declared.sections.Section.{Section}
+use Rattle.sections.specs.declared.sections.Section.{Section}
 use Rattle.ff_state.specs.declared.state.FfState.{FfState}
 use Rattle.sections.specs.declared.key.FfVsKey.{FfVsKey}
 use Rattle.packing.specs.Inputs.{inputsOf}
@@ -127,14 +127,14 @@ module _ {s : FfState} {k : FfVsKey} (r : Ready s k) (v : Valid s) (bits : ℕ) 
     unfolding writtenSectionBytes
     over-long =
         branch (λ (b : List ℕ). length b ≡ 17_840) (hasSection bits σ) _ bytes
-        (λ on. put-long (firstFloat σ k) (stateRows σ s k) bytes fit (fits r σ) long) (λ off. long)
+        (λ on. put-long (firstFloat σ) (stateRows σ s k) bytes fit (fits r σ) long) (λ off. long)
 
     over-floats : mirrorFloats (over σ bytes) ≡ writtenSection σ bits s k (mirrorFloats bytes)
     unfolding writtenSection writtenSectionBytes
     over-floats = go (test (hasSection bits σ))
       where
         go : (hasSection bits σ ≡ true) ⊎ (hasSection bits σ ≡ false) → mirrorFloats (over σ bytes) ≡ writtenSection σ bits s k (mirrorFloats bytes)
-        go (inl on) = rw on (put-floats (firstFloat σ k) (stateRows σ s k) bytes fit (fits r σ) long)
+        go (inl on) = rw on (put-floats (firstFloat σ) (stateRows σ s k) bytes fit (fits r σ) long)
         go (inr off) = rw off
 
   pub written-floats : (σs : List Section) (bytes : List ℕ) → length bytes ≡ 17_840 → mirrorFloats (writtenBytes σs bits s k bytes) ≡ written σs bits s k (mirrorFloats bytes)

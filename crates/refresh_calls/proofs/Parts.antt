@@ -9,8 +9,8 @@ use lib.ListN.{length, take, drop, length-drop, take-append-drop}
 use lib.Seq.{length-take-le}
 use Rattle.codec.specs.Put.{put}
 use Rattle.image_parts.specs.Lists.{listBytes}
-use Rattle.ff_state.specs.Sections.{sections, hasSection}
-use Rattle.ff_state.specs.declared.sections.Section.the-variants.{Wv, Proj, Material, Lights, Palette, Tt}
+use Rattle.sections.specs.Sections.{sections, hasSection}
+use Rattle.sections.specs.declared.sections.Section.the-variants.{Wv, Proj, Material, Lights, Palette, Tt}
 use Rattle.ff_state.specs.declared.state.FfState.{FfState}
 use Rattle.rows.specs.Rows.{floats}
 use Rattle.sections.specs.declared.key.FfVsKey.{FfVsKey}
@@ -34,8 +34,8 @@ pub tt-nothing : (s : FfState) (k : FfVsKey) (bits : ℕ) (m : List ℕ) → wri
 unfolding writtenSectionBytes packedRows floats listBytes put
 tt-nothing s k bits m = go (hasSection bits Tt)
   where
-    go : (t : Bool) → cond t (put (4 * firstFloat Tt k) [] m) m ≡ m
-    go true = take-append-drop (4 * firstFloat Tt k) m
+    go : (t : Bool) → cond t (put (4 * firstFloat Tt) [] m) m ≡ m
+    go true = take-append-drop (4 * firstFloat Tt) m
     go false = refl
 
 -- the five sections that have rows, in the table's order

@@ -6,8 +6,8 @@ use lib.Ieee.{Float}
 use Rattle.codec.specs.Float.{floatBytes, floatAt}
 use Rattle.codec.specs.Put.{put}
 use Rattle.image_parts.specs.Lists.{listBytes, listAt}
-use Rattle.ff_state.specs.Sections.{hasSection}
-use Rattle.ff_state.specs.declared.sections.Section.{Section}
+use Rattle.sections.specs.Sections.{hasSection}
+use Rattle.sections.specs.declared.sections.Section.{Section}
 use Rattle.ff_state.specs.declared.state.FfState.{FfState}
 use Rattle.sections.specs.declared.key.FfVsKey.{FfVsKey}
 use Rattle.packing.specs.Pack.{stateRows}
@@ -19,7 +19,7 @@ mirrorFloats bytes = listAt floatAt 4 4460 bytes 0
 
 -- a section's packing over its bytes, if the bits name it
 unfoldable pub writtenSectionBytes : Section → ℕ → FfState → FfVsKey → List ℕ → List ℕ
-writtenSectionBytes σ bits s k bytes = cond (hasSection bits σ) (put (4 * firstFloat σ k) (listBytes floatBytes (stateRows σ s k)) bytes) bytes
+writtenSectionBytes σ bits s k bytes = cond (hasSection bits σ) (put (4 * firstFloat σ) (listBytes floatBytes (stateRows σ s k)) bytes) bytes
 
 -- sections written over their bytes; the other bytes stay, whatever they are
 unfoldable pub writtenBytes : List Section → ℕ → FfState → FfVsKey → List ℕ → List ℕ

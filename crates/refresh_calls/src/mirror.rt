@@ -5,13 +5,13 @@ ghost use Rattle.pack_calls.specs.Key.{keyOf};
 ghost use Rattle.refresh_calls.specs.Mirror.{left, ffRefresh};
 use crate::written::write_section_bytes;
 use calls::put_state;
-use ff_state::Section;
 use image::state_of;
 use image_parts::image_refused;
 use pack_calls::key_of;
 use refresh::RefreshAnswer;
 use refresh::refresh_answer;
 use sections::FfVsKey;
+use sections::Section;
 
 const MIRROR_BYTES: usize = 17_840;
 

@@ -7,11 +7,16 @@
 //     t W*16        matrix::transpose
 //     i W*16        matrix::inverse
 //
-// Calls on images are made on one running image, 24,204 bytes that begin as zeros, and are lent the
-// first LEN bytes of one running item of 128 bytes, zeros too. `-` is a word that is not looked at.
+// Other calls are made on running things that begin as zeros: an image of 24,204 bytes, an item of
+// 128, a key of 8 and a mirror of 17,840. A call is lent the first LEN bytes of the item, or of what
+// its line names. `-` is a word that is not looked at.
 //
 //     I W*26        puts the words over the item's first 104 bytes, least byte first
 //     O AT BYTE     puts a byte over the image's byte at AT
+//     Y W W         puts the words over the key's eight bytes, least byte first: has_rhw,
+//                   lighting_enabled, specular_enable, vertex_blend_indexed, light_active_mask,
+//                   fog_mode, vertex_blend_count, and one that is not looked at
+//     J AT W        puts the word over the mirror's four bytes at 4 * AT, least byte first
 //     F - LEN       calls::image_fresh, on the image's first LEN bytes
 //     X - LEN       calls::image_check, on the same
 //     S STATE LEN   calls::set_transform
@@ -30,17 +35,18 @@
 //     C - -         calls::compacted_light_masks
 //     K BITS -      calls::mark_ff_vs_dirty
 //     Q - -         calls::take_ff_vs_dirty
-//     U MASK LEN    pack_calls::fill_section of the lights, lit, under the light mask MASK
+//     R - LEN       refresh_calls::refresh under the key, on the mirror's first LEN bytes
+//     U BIT LEN     pack_calls::fill_section of the section whose dirty bit is BIT, under the key,
+//                   into the mirror's first LEN bytes
+//     Z BIT -       pack_calls::section_rows of that section under the key; of the bit 0
+//                   pack_calls::vs_row_count
 //
 // The line written has the words of the answer, `refused` and a number of document 01, or `bad line`
-// for one that is not of this form. The words of an accepted call on an image are the number that it
-// was lent (0 where it was lent none), and the digests of the item and of the image: from 0, for each
-// byte the sum with the byte and 1, times 0x01000193, modulo 2^32.
-mod hex;
-mod images;
+// for one that is not of this form: so too for a LEN past the end of what is lent, an AT past the end
+// of the mirror, and a BIT of no section. The words of an accepted call on running things are the
+// number that it was lent (0 where it was lent none), and the digests of the item, of the image and
+// of the mirror: from 0, for each byte the sum with the byte and 1, times 0x01000193, modulo 2^32.
 mod line;
-mod ops;
 mod stream;
-mod text;
 
 pub use stream::replay;

@@ -1,103 +1,52 @@
-// One line: its words in, the answer's line out.
-ghost use mathlib.Core.Path.{_≡_};
-ghost use Prim.Native.Nat.{_+_, _*_, _<_, _≤_};
-ghost use lib.ListN.{length};
-ghost use Rattle.replay_lines.specs.Lines.{Within, Counted};
-use crate::hex::Word;
-use crate::hex::put_word;
-use crate::hex::word_at;
-use crate::ops::Answer;
-use crate::ops::call;
-use crate::text::put_text;
+// One line: its call made, the answer's line out.
+ghost use Prim.Native.Nat.{_+_, _≤_};
+ghost use Rattle.replay_text.specs.Answer.{Within};
+use replay_calls::image_call;
+use replay_input::Line;
+use replay_input::read_line;
+use replay_ops::call;
+use replay_text::Answer;
+use replay_text::put_held;
 
-// How many words follow the letter of a line.
-enum Words {
-    Count(usize),
-    Bad,
-}
-
-// Reads the words of a line: each has a space before it, and nothing else follows the letter.
-fn read_words(s: &[u8], words: &mut [u32; 32]) -> Words
-    ensures { λ r. ⌜ Counted (now (s .entry)) r ⌝ }
+// Makes the call: arithmetic has a small letter.
+fn answer(
+    line: Line,
+    words: &[u32; 32],
+    out: &mut [u32; 16],
+    image: &mut [u8; 24_204],
+    item: &mut [u8; 128],
+    key: &mut [u8; 8],
+    mirror: &mut [u8; 17_840],
+) -> Answer
+    ensures { λ r. ⌜ Within r ⌝ }
 {
-    if s.len() % 9 != 1 {
-        return Words::Bad;
+    let Line::Call(letter, n) = line else {
+        return Answer::Bad;
+    };
+    if letter < b'a' {
+        return image_call(letter, n, words, out, image, item, key, mirror);
     }
-    let n = s.len() / 9;
-    if 32 < n {
-        return Words::Bad;
-    }
-    let mut i = 0;
-    while i < n {
-        if s[9 * i + 1] != b' ' {
-            return Words::Bad;
-        }
-        let Word::Value(w) = word_at(s, 9 * i + 2) else {
-            return Words::Bad;
-        };
-        words[i] = w;
-        i += 1;
-    }
-    Words::Count(n)
+    call(letter, n, words, out)
 }
 
-// Puts n words at `at`, a space between two of them and a newline at the end.
-fn put_words(dst: &mut [u8], at: usize, words: &[u32; 16], n: usize) -> usize
-    requires { ⌜ (0 < n) × (n ≤ 16) × (at + 9 * n ≤ length (now dst)) ⌝ }
-    ensures { λ r. ⌜ r ≡ at + 9 * n ⌝ }
-{
-    let mut i = 0;
-    let mut end = at;
-    while i < n {
-        let space = put_word(dst, end, words[i]);
-        dst[space] = b' ';
-        end = space + 1;
-        i += 1;
-    }
-    dst[end - 1] = b'\n';
-    end
-}
-
-fn put_refusal(dst: &mut [u8], at: usize, why: u32) -> usize
-    requires { ⌜ at + 19 ≤ length (now dst) ⌝ }
-    ensures { λ r. ⌜ r ≤ at + 19 ⌝ }
-{
-    let mut text = [0u8; 20];
-    let n = io::decimal(why as u64, &mut text);
-    let number = put_text(dst, at, b"refused ");
-    let end = put_text(dst, number, &text[..n]);
-    put_text(dst, end, b"\n")
-}
-
-pub fn put_bad(dst: &mut [u8], at: usize) -> usize
-    requires { ⌜ at + 9 ≤ length (now dst) ⌝ }
-    ensures { λ r. ⌜ r ≡ at + 9 ⌝ }
-{
-    put_text(dst, at, b"bad line\n")
-}
-
-fn put_answer(dst: &mut [u8], at: usize, a: Answer, words: &[u32; 16]) -> usize
-    requires { ⌜ Within a × (at + 144 ≤ length (now dst)) ⌝ }
-    ensures { λ r. ⌜ r ≤ at + 144 ⌝ }
-{
-    match a {
-        Answer::Words(n) => put_words(dst, at, words, n),
-        Answer::Refused(why) => put_refusal(dst, at, why),
-        Answer::Bad => put_bad(dst, at),
-    }
-}
-
-// Puts the answer to the line s, which has no newline, at `at`. The longest has 16 words of nine
-// bytes, 144.
-pub fn answer_line(s: &[u8], dst: &mut [u8], at: usize, image: &mut [u8], item: &mut [u8]) -> usize
-    requires { ⌜ (at + 144 ≤ length (now dst)) × (104 ≤ length (now item)) ⌝ }
-    ensures { λ r. ⌜ r ≤ at + 144 ⌝ }
+// Puts the answer to the first n bytes of the line, which has no newline, behind what is held. There
+// are 144 bytes for it: the longest has 16 words of nine bytes.
+pub fn answer_line(
+    s: &[u8; 1024],
+    n: usize,
+    dst: &mut [u8; 65_536],
+    held: usize,
+    image: &mut [u8; 24_204],
+    item: &mut [u8; 128],
+    key: &mut [u8; 8],
+    mirror: &mut [u8; 17_840],
+) -> usize
+    requires { ⌜ (n ≤ 1024) × (held ≤ 65_536) ⌝ }
+    ensures { λ r. ⌜ (r ≤ held + 144) × (r ≤ 65_536) ⌝ }
 {
     let mut words = [0u32; 32];
-    let Words::Count(n) = read_words(s, &mut words) else {
-        return put_bad(dst, at);
-    };
     let mut out = [0u32; 16];
-    let a = call(s[0], n, &words, &mut out, image, item);
-    put_answer(dst, at, a, &out)
+    let line = read_line(s, n, &mut words);
+    let a = answer(line, &words, &mut out, image, item, key, mirror);
+    put_held(dst, held, a, &out)
 }

@@ -1,3 +1,4 @@
+pub mod Every
 pub mod Bounds
 pub mod Reach
 pub mod Tiles

@@ -8,11 +8,10 @@ use mathlib.Core.List.{[], _∷_}
 use lib.Count.{leadingZeros, leading-le}
 use lib.Dec.{eqb, eqb·suc-zero}
 use borrow.Author.Tests.{ne-eqb}
-use Rattle.ff_state.specs.declared.sections.Section.{Section}
-use Rattle.ff_state.specs.declared.sections.Section.the-variants.{Wv, Proj, Material, Lights, Palette, Tt}
+use Rattle.sections.specs.declared.sections.Section.{Section}
+use Rattle.sections.specs.declared.sections.Section.the-variants.{Wv, Proj, Material, Lights, Palette, Tt}
 use Rattle.sections.specs.Counts.{places, materialCount, lightCount, paletteMatrices, paletteCount, textureCount}
-use Rattle.sections.specs.Shape.{sectionShape, reach}
-use Rattle.sections.specs.RowCount.{lightingReach, textureReach, paletteReach, ffVsRowCount, readSections, greatestReach}
+use Rattle.sections.specs.RowCount.{lightingReach, textureReach, paletteReach, ffVsRowCount, readSections, reach, greatestReach}
 use Rattle.sections.specs.declared.key.FfVsKey.{FfVsKey}
 
 -- a mask that is not 0 has a place
@@ -67,27 +66,27 @@ absorbed a m x h = omega arith
 
 module _ (k : FfVsKey) (t : ℕ) where
   abbrev reaches : Section → ℕ
-  reaches σ = reach (sectionShape σ k t)
+  reaches σ = reach σ k t
 
   texture : textureReach t ≡ reaches Tt
-  unfolding textureReach sectionShape reach textureCount
+  unfolding textureReach reach textureCount
   texture = rw (no-rows t 3)
 
   palette : paletteReach k ≡ reaches Palette
-  unfolding paletteReach sectionShape reach paletteCount paletteMatrices
+  unfolding paletteReach reach paletteCount paletteMatrices
   palette = palette-reach (k .«vertex_blend_indexed») (k .«vertex_blend_count»)
 
   lighting : lightingReach k ≡ max (cond (k .«lighting_enabled») (reaches Lights) 0) (reaches Material)
-  unfolding lightingReach sectionShape reach lightCount materialCount
+  unfolding lightingReach reach lightCount materialCount
   lighting = lit-reach (k .«lighting_enabled») (k .«specular_enable») (k .«light_active_mask»)
 
   -- the first two sections end before the material's
   first-two : reaches Wv ≤ reaches Proj
-  unfolding sectionShape reach
+  unfolding reach
   first-two = omega arith
 
   second-too : reaches Proj ≤ reaches Material
-  unfolding sectionShape reach materialCount
+  unfolding reach materialCount
   second-too = omega (arith, colours-reach (k .«lighting_enabled») (k .«specular_enable»))
 
   behind : max (reaches Material) (max (reaches Tt) (reaches Palette)) ≡ greatestReach (Wv ∷ Proj ∷ Material ∷ Tt ∷ Palette ∷ []) k t

@@ -4,6 +4,8 @@ use mathlib.Core.Bool.{cond}
 use lib.Count.{leadingZeros}
 use lib.Dec.{eqb}
 use Rattle.sections.specs.declared.key.FfVsKey.{FfVsKey}
+use Rattle.sections.specs.declared.sections.Section.{Section}
+use Rattle.sections.specs.declared.sections.Section.the-variants.{Wv, Proj, Material, Lights, Palette, Tt}
 
 -- "8 minus the mask's leading zeros"
 unfoldable pub places : ℕ → ℕ
@@ -25,3 +27,12 @@ paletteCount k = paletteMatrices k * 4
 
 unfoldable pub textureCount : ℕ → ℕ
 textureCount mask = places mask * 4
+
+-- of each section, under a key and a texture mask
+abbrev pub sectionRows : Section → FfVsKey → ℕ → ℕ
+sectionRows Wv k t = 4
+sectionRows Proj k t = 4
+sectionRows Material k t = materialCount k
+sectionRows Lights k t = lightCount k
+sectionRows Palette k t = paletteCount k
+sectionRows Tt k t = textureCount t

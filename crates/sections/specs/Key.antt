@@ -10,6 +10,6 @@ pub record SameShape (k l : FfVsKey) : Type 0 where
   pub light-active-mask : k .«light_active_mask» ≡ l .«light_active_mask»
   pub vertex-blend-count : k .«vertex_blend_count» ≡ l .«vertex_blend_count»
 
--- "The texture mask counts as 0."
-abbrev pub noTextures : ℕ
-noTextures = 0
+-- "eight at most": how many of the active lights are packed
+abbrev pub lightLimit : FfVsKey → ℕ
+lightLimit k = 8

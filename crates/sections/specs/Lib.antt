@@ -1,4 +1,4 @@
+pub mod Sections
 pub mod Key
 pub mod Counts
-pub mod Shape
 pub mod RowCount

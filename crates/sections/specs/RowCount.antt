@@ -3,10 +3,10 @@ use Prim.Native.Nat.{ℕ, _+_, max}
 use mathlib.Core.Bool.{cond}
 use mathlib.Core.List.{List, [], _∷_}
 use lib.Dec.{eqb}
-use Rattle.ff_state.specs.declared.sections.Section.{Section}
-use Rattle.ff_state.specs.declared.sections.Section.the-variants.{Wv, Proj, Material, Lights, Palette, Tt}
-use Rattle.sections.specs.Counts.{lightCount, paletteCount, textureCount}
-use Rattle.sections.specs.Shape.{sectionShape, reach}
+use Rattle.sections.specs.declared.sections.Section.{Section}
+use Rattle.sections.specs.declared.sections.Section.the-variants.{Wv, Proj, Material, Lights, Palette, Tt}
+use Rattle.sections.specs.Counts.{lightCount, paletteCount, textureCount, sectionRows}
+use Rattle.sections.specs.Sections.{firstRow}
 use Rattle.sections.specs.declared.key.FfVsKey.{FfVsKey}
 
 -- unlit up to row 10; lit up to row 13, or 14 if specular; a lit light's rows lie beyond both
@@ -33,7 +33,11 @@ readSections k =
     let others = Wv ∷ Proj ∷ Material ∷ Tt ∷ Palette ∷ [] in
     cond (k .«lighting_enabled») (Lights ∷ others) others
 
+-- the row behind a section's last, 0 where it has none
+unfoldable pub reach : Section → FfVsKey → ℕ → ℕ
+reach σ k t = cond (eqb (sectionRows σ k t) 0) 0 (firstRow σ + sectionRows σ k t)
+
 -- the greatest reach
 unfoldable pub greatestReach : List Section → FfVsKey → ℕ → ℕ
 greatestReach [] k t = 0
-greatestReach (σ ∷ σs) k t = max (reach (sectionShape σ k t)) (greatestReach σs k t)
+greatestReach (σ ∷ σs) k t = max (reach σ k t) (greatestReach σs k t)

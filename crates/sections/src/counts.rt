@@ -1,8 +1,9 @@
 // How many rows each section has. None of these looks at HAS_RHW, and the lights' not at LIGHTING_ENABLED.
 ghost use mathlib.Core.Path.{_≡_};
 ghost use Rattle.sections.specs.Counts as Counts;
-ghost use Rattle.sections.specs.Counts.{materialCount, lightCount, paletteMatrices, paletteCount, textureCount};
+ghost use Rattle.sections.specs.Counts.{materialCount, lightCount, paletteMatrices, paletteCount, textureCount, sectionRows};
 use crate::key::FfVsKey;
+use crate::sections::Section;
 
 // The places of a mask up to its highest bit.
 fn places(mask: u8) -> u16
@@ -65,4 +66,18 @@ pub fn tt_section_rows(texture_mask: u8) -> u16
     ensures { λ r. ⌜ r ≡ textureCount «texture_mask» ⌝ }
 {
     places(texture_mask) * 4
+}
+
+// The rows of a section by its name.
+pub fn section_rows(section: Section, key: FfVsKey, texture_mask: u8) -> u16
+    ensures { λ r. ⌜ r ≡ sectionRows section key «texture_mask» ⌝ }
+{
+    match section {
+        Section::Wv => wv_section_rows(),
+        Section::Proj => proj_section_rows(),
+        Section::Material => material_section_rows(key),
+        Section::Lights => lights_section_rows(key),
+        Section::Palette => palette_section_rows(key),
+        Section::Tt => tt_section_rows(texture_mask),
+    }
 }

@@ -1,4 +1,7 @@
 // What the sections depend on of a vertex shader's key (dxso/ff.rs).
+ghost use mathlib.Core.Path.{_≡_};
+ghost use Rattle.sections.specs.Key.{lightLimit};
+
 #[repr(C)]
 pub struct FfVsKey {
     pub has_rhw: bool,
@@ -12,3 +15,10 @@ pub struct FfVsKey {
 
 // The mask of texture stages that are transformed: none, as texture stage states are left out.
 pub const NO_TEXTURES: u8 = 0;
+
+// How many of the active lights are packed under the key, at most.
+pub fn light_limit(key: FfVsKey) -> usize
+    ensures { λ r. ⌜ r ≡ lightLimit key ⌝ }
+{
+    8
+}

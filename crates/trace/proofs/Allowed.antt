@@ -18,16 +18,16 @@ use Rattle.d3d9_types.specs.Light.{lightFits}
 use Rattle.d3d9_types.specs.declared.matrix.D3DMATRIX.{D3DMATRIX}
 use Rattle.d3d9_types.specs.declared.material.D3DMATERIAL9.{D3DMATERIAL9}
 use Rattle.d3d9_types.specs.declared.light.D3DLIGHT9.{D3DLIGHT9}
-use Rattle.light_table.specs.Bits.{hasBit}
-use Rattle.ff_state.specs.declared.sections.Section.{Section}
-use Rattle.ff_state.specs.declared.sections.Section.the-variants.{Wv, Proj, Material, Lights, Palette, Tt}
+use Rattle.words.specs.Bits.{hasBit}
+use Rattle.sections.specs.declared.sections.Section.{Section}
+use Rattle.sections.specs.declared.sections.Section.the-variants.{Wv, Proj, Material, Lights, Palette, Tt}
 use Rattle.image_parts.specs.Reasons.{refused}
 use Rattle.sections.specs.Key.{SameShape}
 use Rattle.sections.specs.declared.key.FfVsKey.{FfVsKey}
 use Rattle.d3d9_model.specs.State.{AbstractState}
 use Rattle.d3d9_model.specs.Operations.{setTransform, multiplyTransform, setMaterial, setLight, enableLight, mark, abstractRefusal}
 use Rattle.refresh_calls.specs.Written.{mirrorFloats}
-use Rattle.trace.specs.Calls.{hostSetTransform, hostMultiplyTransform, hostSetMaterial, hostSetLight, hostEnableLight, hostMark, theMirror, another, slice, HostCall, operates, refreshes, Call, own, readIn, refresh, overwrite, host, hostOn, operationOf, operationBits}
+use Rattle.trace.specs.Calls.{theMirror, another, slice, HostCall, operates, refreshes, Call, own, readIn, refresh, overwrite, host, hostOn, operationOf, operationBits}
 use Rattle.trace.specs.Calls as Calls
 use Rattle.trace.specs.World.{World, Track, trackMarked, freshTrack, start, standing, operated, operatedIf, marks}
 use Rattle.trace.specs.Step.{Refresher, refreshRefusal, accepts, hostKey, acceptedKey, hostStep, step}
@@ -83,27 +83,27 @@ module _ (w : World) where
   unfolding acceptedKey lentMirror
   reads-may = (tt, free refl refl)
 
-  pub host-set-transform-may : (n : ℕ) (m : List ℕ) → Bytes m → Admits w (host (operates (hostSetTransform n m)))
+  pub host-set-transform-may : (n : ℕ) (m : List ℕ) → Bytes m → Admits w (host (operates (setTransform n m)))
   unfolding acceptedKey hostKey lentMirror hostMirror
   host-set-transform-may n m b = (b, free refl refl)
 
-  pub host-multiply-transform-may : (n : ℕ) (m : List ℕ) → Bytes m → Admits w (host (operates (hostMultiplyTransform n m)))
+  pub host-multiply-transform-may : (n : ℕ) (m : List ℕ) → Bytes m → Admits w (host (operates (multiplyTransform n m)))
   unfolding acceptedKey hostKey lentMirror hostMirror
   host-multiply-transform-may n m b = (b, free refl refl)
 
-  pub host-set-material-may : (m : List ℕ) → Bytes m → Admits w (host (operates (hostSetMaterial m)))
+  pub host-set-material-may : (m : List ℕ) → Bytes m → Admits w (host (operates (setMaterial m)))
   unfolding acceptedKey hostKey lentMirror hostMirror
   host-set-material-may m b = (b, free refl refl)
 
-  pub host-set-light-may : (i : ℕ) (l : List ℕ) → i < 0x1_0000_0000 → Bytes l → Admits w (host (operates (hostSetLight i l)))
+  pub host-set-light-may : (i : ℕ) (l : List ℕ) → i < 0x1_0000_0000 → Bytes l → Admits w (host (operates (setLight i l)))
   unfolding acceptedKey hostKey lentMirror hostMirror
   host-set-light-may i l u b = ((u, b), free refl refl)
 
-  pub host-enable-light-may : (i on : ℕ) → i < 0x1_0000_0000 → Admits w (host (operates (hostEnableLight i on)))
+  pub host-enable-light-may : (i on : ℕ) → i < 0x1_0000_0000 → Admits w (host (operates (enableLight i on)))
   unfolding acceptedKey hostKey lentMirror hostMirror
   host-enable-light-may i on u = (u, free refl refl)
 
-  pub host-mark-may : (bits : ℕ) → Admits w (host (operates (hostMark bits)))
+  pub host-mark-may : (bits : ℕ) → Admits w (host (operates (mark bits)))
   unfolding acceptedKey hostKey lentMirror hostMirror
   host-mark-may bits = (tt, free refl refl)
 
@@ -203,7 +203,7 @@ module _ (R : Refresher) (w : World) (k : FfVsKey) where
   unfolding step standing operated
   own-marked = five-marked
 
-  pub host-marked : Marked (step R (host (operates (hostMark 31))) w .track) k
+  pub host-marked : Marked (step R (host (operates (mark 31))) w .track) k
   unfolding step hostStep standing operationOf operatedIf operated
   host-marked = five-marked
 

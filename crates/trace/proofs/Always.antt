@@ -14,10 +14,10 @@ use Rattle.lemmas.proofs.Branch.{branch}
 use Rattle.lemmas.proofs.Options.{some-is, not-some}
 use Rattle.codec.specs.Little.{Bytes}
 use Rattle.ff_state.specs.Dirty.{takeFfVsDirty}
-use Rattle.ff_state.specs.Sections.{sections}
+use Rattle.sections.specs.Sections.{sections}
 use Rattle.ff_state.specs.State.{freshState}
 use Rattle.ff_state.specs.Valid.{Valid}
-use Rattle.ff_state.specs.declared.sections.Section.{Section}
+use Rattle.sections.specs.declared.sections.Section.{Section}
 use Rattle.ff_state.specs.declared.state.FfState.{FfState}
 use Rattle.image_parts.specs.Reasons.{refused}
 use Rattle.image.specs.Format.{imageBytes}
@@ -25,10 +25,10 @@ use Rattle.image.specs.Read.{stateOf, readImage}
 use Rattle.image_laws.specs.Exactly.{IsAccepted}
 use Rattle.sections.specs.declared.key.FfVsKey.{FfVsKey}
 use Rattle.d3d9_model.specs.State.{AbstractState}
-use Rattle.agreement.specs.Operate.{operate}
+use Rattle.ff_state.specs.Operate.{operate}
 use Rattle.agreement.proofs.Dirty.{taken-valid}
 use Rattle.agreement.proofs.Kept.{valid-kept}
-use Rattle.image_agreement.proofs.Refused.{refused-same}
+use Rattle.agreement.proofs.Refused.{refused-same}
 use Rattle.refresh.specs.Answer.{refreshAnswer, refreshNumber}
 use Rattle.refresh.specs.Mirror.{Outcome, refreshMirror}
 use Rattle.refresh.specs.Written.{written}

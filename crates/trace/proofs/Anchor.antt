@@ -39,7 +39,7 @@ use Rattle.image.proofs.read_image.Reads as read-image-reads
 use Rattle.image.proofs.write_image.Kinds as write-image-kinds
 use Rattle.image.proofs.write_image.Reads as write-image-reads
 use Rattle.d3d9_model.specs.Operations.{setTransform, multiplyTransform, setMaterial, setLight, enableLight, mark}
-use Rattle.agreement.specs.Operate.{Operated, operate}
+use Rattle.ff_state.specs.Operate.{Operated, operate}
 use Rattle.refresh.specs.Mirror.{refreshed}
 use Rattle.refresh.specs.declared.mirror.Refreshed.{Refreshed}
 use Rattle.refresh.proofs.refresh.Kinds as refresh-kinds

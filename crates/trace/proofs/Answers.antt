@@ -9,7 +9,7 @@ use lib.Ieee.{Float}
 use lib.ListN.{length}
 use Rattle.sections.specs.declared.key.FfVsKey.{FfVsKey}
 use Rattle.d3d9_model.specs.Operations.{Operation, abstractRefusal}
-use Rattle.agreement.specs.Operate.{operate}
+use Rattle.ff_state.specs.Operate.{operate}
 use Rattle.agreement.proofs.Kept.{refused-alike}
 use Rattle.refresh.specs.Answer.{refreshNumber}
 use Rattle.trace.specs.Calls.{HostOperation, Lent, slice, Call, hostAnswer, operationOf}

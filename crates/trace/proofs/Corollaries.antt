@@ -10,13 +10,13 @@ use mathlib.Core.Option.{some}
 use lib.Ieee.{Float}
 use lib.ListN.{length}
 use Rattle.lemmas.proofs.Tests.{never, test}
-use Rattle.ff_state.specs.declared.sections.Section.{Section}
-use Rattle.ff_state.specs.declared.sections.Section.the-variants.{Wv, Proj, Material, Lights, Palette, Tt}
+use Rattle.sections.specs.declared.sections.Section.{Section}
+use Rattle.sections.specs.declared.sections.Section.the-variants.{Wv, Proj, Material, Lights, Palette, Tt}
 use Rattle.packing.specs.Inputs.{packedRows}
 use Rattle.sections.specs.declared.key.FfVsKey.{FfVsKey}
 use Rattle.d3d9_model.specs.Operations.{mark}
 use Rattle.packing_laws.specs.Abstract.{abstractRows}
-use Rattle.trace.specs.Calls.{hostMark, Call, own, readIn, refresh, overwrite, host, hostOn, operates, operationOf}
+use Rattle.trace.specs.Calls.{Call, own, readIn, refresh, overwrite, host, hostOn, operates, operationOf}
 use Rattle.trace.specs.Calls as Calls
 use Rattle.trace.specs.Count.{countBelow, differing}
 use Rattle.trace.specs.World.{World, start, wrongRows}
@@ -94,12 +94,12 @@ tt-right w k = refl
 
 -- a marking of the five sections, by value or by the host
 abbrev pub MarksFive : Call → Type 0
-MarksFive c = (c ≡ own (mark 31)) ⊎ (c ≡ host (operates (hostMark 31)))
+MarksFive c = (c ≡ own (mark 31)) ⊎ (c ≡ host (operates (mark 31)))
 
 marking-clears : (c : Call) → MarksFive c → (w : World) (σ : Section) → OfFive σ → step ours c w .track .exempt σ ≡ false
 unfolding operationOf
 marking-clears c (inl e) w σ f = rw e (marking-ends ours σ (mark 31) w (marks-five (w .abstract) σ f))
-marking-clears c (inr e) w σ f = rw e (host-marking-ends ours σ (hostMark 31) (mark 31) w refl (marks-five (w .abstract) σ f))
+marking-clears c (inr e) w σ f = rw e (host-marking-ends ours σ (mark 31) (mark 31) w refl (marks-five (w .abstract) σ f))
 
 -- "a player that loses its rows must recover without a restart": after any admissible calls, a marking and an accepted refresh
 module _ (m : List Float) (long : length m ≡ 4460) (calls : List Call) (marking c : Call) (k : FfVsKey) (five : MarksFive marking) where

@@ -8,11 +8,10 @@ use mathlib.Core.List.{List}
 use lib.Ieee.{Float, nan, binary32, toBits, isNan}
 use lib.ListN.{length, getD}
 use borrow.Author.Tests.{eq-eqb}
-use Rattle.ff_state.specs.declared.sections.Section.{Section}
+use Rattle.sections.specs.declared.sections.Section.{Section}
 use Rattle.rows.specs.Rows.{floats}
 use Rattle.rows.proofs.Floats.{length-floats}
-use Rattle.sections.specs.Key.{noTextures}
-use Rattle.sections.specs.Shape.{firstRow}
+use Rattle.sections.specs.Sections.{firstRow}
 use Rattle.sections.specs.declared.key.FfVsKey.{FfVsKey}
 use Rattle.d3d9_model.specs.State.{AbstractState}
 use Rattle.packing_laws.specs.Abstract.{abstractRows}
@@ -46,8 +45,8 @@ row-alike m p f i h small =
       alike-at m p f i 3 h (omega (arith, small)),
     )
 
-pub holds-count : (m : List Float) (k : FfVsKey) (a : AbstractState) (σ : Section) → Holds m (firstFloat σ k) (floats (abstractRows σ a k)) → differing m k a σ ≡ 0
+pub holds-count : (m : List Float) (k : FfVsKey) (a : AbstractState) (σ : Section) → Holds m (firstFloat σ) (floats (abstractRows σ a k)) → differing m k a σ ≡ 0
 unfolding differing
 holds-count m k a σ h =
     let n = length-floats (abstractRows σ a k) in
-    none-below _ (length (abstractRows σ a k)) (λ i g. row-alike m (floats (abstractRows σ a k)) (firstRow σ k noTextures) i h (omega (arith, g, n)))
+    none-below _ (length (abstractRows σ a k)) (λ i g. row-alike m (floats (abstractRows σ a k)) (firstRow σ) i h (omega (arith, g, n)))

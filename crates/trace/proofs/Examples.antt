@@ -19,7 +19,7 @@ use Rattle.matrix.specs.Sum.{sumFrom}
 use Rattle.matrix.specs.Product.{dot, matMul}
 use Rattle.matrix.specs.Transposition.{transposed}
 use Rattle.matrix.specs.View.{viewTransformPoint, viewTransformDir}
-use Rattle.ff_state.specs.declared.sections.Section.the-variants.{Wv, Proj, Material, Lights, Palette, Tt}
+use Rattle.sections.specs.declared.sections.Section.the-variants.{Wv, Proj, Material, Lights, Palette, Tt}
 use Rattle.rows.specs.Rows.{floats, rowsOf}
 use Rattle.rows.specs.Matrices.{projectionRows, worldViewRows, paletteRows}
 use Rattle.rows.specs.Material.{materialRows}
@@ -28,7 +28,6 @@ use Rattle.light_rows.specs.Direction.{lengthOf, unitDirection}
 use Rattle.light_rows.specs.Cone.{coneOf}
 use Rattle.light_rows.specs.Light.{kindOf, lightRows, lightsRows}
 use Rattle.sections.specs.Counts.{paletteMatrices}
-use Rattle.sections.specs.Shape.{sectionShape}
 use Rattle.sections.specs.declared.key.FfVsKey.{FfVsKey}
 use Rattle.packing.specs.Inputs.{packedRows}
 use Rattle.d3d9_model.specs.State.{AbstractState, freshAbstract}
@@ -55,7 +54,7 @@ oneLight = abstractStep freshAbstract (enableLight 0 true)
 
 -- "P2 lit 14 …": four rows from row 10 on; six rows a light; four a matrix
 pub wrong-rows : map (differing (replicate 4460 nan) litKey oneLight) (Wv ∷ Proj ∷ Material ∷ Lights ∷ Palette ∷ Tt ∷ []) ≡ 4 ∷ 4 ∷ 4 ∷ 6 ∷ 12 ∷ 0 ∷ []
-unfolding differing countBelow rowDiffers alikeAt alike abstractRows abstractInputs matricesFrom packedRows paletteMatrices sectionShape abstractStep abstractRefusal abstractChange full lookup isThere countBeyond lightEnabled changedAt lights? activeOf abstractActive freshAbstract worldViewRows projectionRows materialRows paletteRows lightsRows lightRows kindOf unitDirection lengthOf floored smallest coneOf larger sqrtOf rootOf nearestRoot floorRoot rootFrom floats rowsOf matMul dot transposed viewTransformPoint viewTransformDir column row sumFrom add sub mul div rem neg lt isNan ofInt ofBits toBits identity defaultMaterial defaultLight
+unfolding differing countBelow rowDiffers alikeAt alike abstractRows abstractInputs matricesFrom packedRows paletteMatrices abstractStep abstractRefusal abstractChange full lookup isThere countBeyond lightEnabled changedAt lights? activeOf abstractActive freshAbstract worldViewRows projectionRows materialRows paletteRows lightsRows lightRows kindOf unitDirection lengthOf floored smallest coneOf larger sqrtOf rootOf nearestRoot floorRoot rootFrom floats rowsOf matMul dot transposed viewTransformPoint viewTransformDir column row sumFrom add sub mul div rem neg lt isNan ofInt ofBits toBits identity defaultMaterial defaultLight
 wrong-rows = refl
 
 -- a count of 0 leaves no row out

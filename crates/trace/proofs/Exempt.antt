@@ -11,10 +11,9 @@ use lib.Ieee.{Float}
 use borrow.Author.Tests.{ltb-true, leb-true}
 use Rattle.lemmas.proofs.Tests.{and-false, both, either}
 use Rattle.lemmas.proofs.Branch.{branch}
-use Rattle.ff_state.specs.declared.sections.Section.{Section}
+use Rattle.sections.specs.declared.sections.Section.{Section}
 use Rattle.image_parts.specs.Reasons.{refused}
-use Rattle.sections.specs.Key.{noTextures}
-use Rattle.sections.specs.Shape.{firstRow}
+use Rattle.sections.specs.Sections.{firstRow}
 use Rattle.sections.specs.declared.key.FfVsKey.{FfVsKey}
 use Rattle.d3d9_model.specs.Operations.{Operation}
 use Rattle.trace.specs.Calls.{Lent, theMirror, another, HostOperation, HostCall, operates, refreshes, Call, own, readIn, refresh, overwrite, host, hostOn, operationOf}
@@ -91,10 +90,10 @@ none-before-first r t σ e = rw e
 
 -- a row that the section had at the last accepted refresh
 pub hit-inside : (r : ℕ) (t : Track) (σ : Section) (k : FfVsKey) → t .lastKey ≡ some k → hits r t σ ≡ true
-    → (firstRow σ k noTextures ≤ r) × (r < firstRow σ k noTextures + t .rowsAtLastRefresh σ)
+    → (firstRow σ ≤ r) × (r < firstRow σ + t .rowsAtLastRefresh σ)
 unfolding isRow
 hit-inside r t σ k last e =
-    let f = firstRow σ k noTextures in
+    let f = firstRow σ in
     let n = t .rowsAtLastRefresh σ in
     let inside = sym (hits-is r t σ k last) ∙ e in
     let parts = both (leb f r) (ltb r (f + n)) inside in

@@ -37,44 +37,45 @@ use Rattle.refresh_calls.proofs.refresh.Kinds as call-refresh-kinds
 use Rattle.refresh_calls.proofs.refresh.Reads as call-refresh-reads
 use Rattle.host.proofs.mirror.ff_refresh.Kinds as ff-refresh-kinds
 use Rattle.host.proofs.mirror.ff_refresh.Reads as ff-refresh-reads
-use Rattle.trace.specs.Calls.{hostSetTransform, hostMultiplyTransform, hostSetMaterial, hostSetLight, hostEnableLight, hostMark, hostAnswer}
+use Rattle.trace.specs.Calls.{hostAnswer}
+use Rattle.d3d9_model.specs.Operations.{setTransform, multiplyTransform, setMaterial, setLight, enableLight, mark}
 use Rattle.trace.specs.Step.{ours}
 
 -- ---- the calls over an image
 
 pub call-set-transform-anchored : (κs : Lfts 2) (a : Dens κs call-set-transform-kinds.ps)
     → call-set-transform-reads.Asked κs a
-    × ((r : ℕ) (e : AtExit (endedOf 2 call-set-transform-kinds.ps call-set-transform-kinds.r) κs) → call-set-transform-reads.Learnt κs a r e → answer r (now (e .0)) ≡ hostAnswer (hostSetTransform (a .1 .0) (now (a .1 .1 .0))) (now (a .0)))
+    × ((r : ℕ) (e : AtExit (endedOf 2 call-set-transform-kinds.ps call-set-transform-kinds.r) κs) → call-set-transform-reads.Learnt κs a r e → answer r (now (e .0)) ≡ hostAnswer (setTransform (a .1 .0) (now (a .1 .1 .0))) (now (a .0)))
 unfolding hostAnswer
 call-set-transform-anchored κs a = (tt, λ r e h. h)
 
 pub call-multiply-transform-anchored : (κs : Lfts 2) (a : Dens κs call-multiply-transform-kinds.ps)
     → call-multiply-transform-reads.Asked κs a
-    × ((r : ℕ) (e : AtExit (endedOf 2 call-multiply-transform-kinds.ps call-multiply-transform-kinds.r) κs) → call-multiply-transform-reads.Learnt κs a r e → answer r (now (e .0)) ≡ hostAnswer (hostMultiplyTransform (a .1 .0) (now (a .1 .1 .0))) (now (a .0)))
+    × ((r : ℕ) (e : AtExit (endedOf 2 call-multiply-transform-kinds.ps call-multiply-transform-kinds.r) κs) → call-multiply-transform-reads.Learnt κs a r e → answer r (now (e .0)) ≡ hostAnswer (multiplyTransform (a .1 .0) (now (a .1 .1 .0))) (now (a .0)))
 unfolding hostAnswer
 call-multiply-transform-anchored κs a = (tt, λ r e h. h)
 
 pub call-set-material-anchored : (κs : Lfts 2) (a : Dens κs call-set-material-kinds.ps)
     → call-set-material-reads.Asked κs a
-    × ((r : ℕ) (e : AtExit (endedOf 2 call-set-material-kinds.ps call-set-material-kinds.r) κs) → call-set-material-reads.Learnt κs a r e → answer r (now (e .0)) ≡ hostAnswer (hostSetMaterial (now (a .1 .0))) (now (a .0)))
+    × ((r : ℕ) (e : AtExit (endedOf 2 call-set-material-kinds.ps call-set-material-kinds.r) κs) → call-set-material-reads.Learnt κs a r e → answer r (now (e .0)) ≡ hostAnswer (setMaterial (now (a .1 .0))) (now (a .0)))
 unfolding hostAnswer
 call-set-material-anchored κs a = (tt, λ r e h. h)
 
 pub call-set-light-anchored : (κs : Lfts 2) (a : Dens κs call-set-light-kinds.ps)
     → call-set-light-reads.Asked κs a
-    × ((r : ℕ) (e : AtExit (endedOf 2 call-set-light-kinds.ps call-set-light-kinds.r) κs) → call-set-light-reads.Learnt κs a r e → answer r (now (e .0)) ≡ hostAnswer (hostSetLight (a .1 .0) (now (a .1 .1 .0))) (now (a .0)))
+    × ((r : ℕ) (e : AtExit (endedOf 2 call-set-light-kinds.ps call-set-light-kinds.r) κs) → call-set-light-reads.Learnt κs a r e → answer r (now (e .0)) ≡ hostAnswer (setLight (a .1 .0) (now (a .1 .1 .0))) (now (a .0)))
 unfolding hostAnswer
 call-set-light-anchored κs a = (tt, λ r e h. h)
 
 pub call-enable-light-anchored : (κs : Lfts 1) (a : Dens κs call-enable-light-kinds.ps)
     → call-enable-light-reads.Asked κs a
-    × ((r : ℕ) (e : AtExit (endedOf 1 call-enable-light-kinds.ps call-enable-light-kinds.r) κs) → call-enable-light-reads.Learnt κs a r e → answer r (now (e .0)) ≡ hostAnswer (hostEnableLight (a .1 .0) (a .1 .1 .0)) (now (a .0)))
+    × ((r : ℕ) (e : AtExit (endedOf 1 call-enable-light-kinds.ps call-enable-light-kinds.r) κs) → call-enable-light-reads.Learnt κs a r e → answer r (now (e .0)) ≡ hostAnswer (enableLight (a .1 .0) (a .1 .1 .0)) (now (a .0)))
 unfolding hostAnswer
 call-enable-light-anchored κs a = (tt, λ r e h. h)
 
 pub call-mark-anchored : (κs : Lfts 1) (a : Dens κs call-mark-kinds.ps)
     → call-mark-reads.Asked κs a
-    × ((r : ℕ) (e : AtExit (endedOf 1 call-mark-kinds.ps call-mark-kinds.r) κs) → call-mark-reads.Learnt κs a r e → answer r (now (e .0)) ≡ hostAnswer (hostMark (a .1 .0)) (now (a .0)))
+    × ((r : ℕ) (e : AtExit (endedOf 1 call-mark-kinds.ps call-mark-kinds.r) κs) → call-mark-reads.Learnt κs a r e → answer r (now (e .0)) ≡ hostAnswer (mark (a .1 .0)) (now (a .0)))
 unfolding hostAnswer
 call-mark-anchored κs a = (tt, λ r e h. h)
 
@@ -89,37 +90,37 @@ call-refresh-anchored κs a = (tt, λ r e h. h)
 
 pub ff-set-transform-anchored : (κs : Lfts 2) (a : Dens κs ff-set-transform-kinds.ps)
     → ff-set-transform-reads.Asked κs a
-    × ((r : ℕ) (e : AtExit (endedOf 2 ff-set-transform-kinds.ps ff-set-transform-kinds.r) κs) → ff-set-transform-reads.Learnt κs a r e → answer r (now (e .0)) ≡ hostAnswer (hostSetTransform (a .1 .0) (now (a .1 .1 .0))) (now (a .0)))
+    × ((r : ℕ) (e : AtExit (endedOf 2 ff-set-transform-kinds.ps ff-set-transform-kinds.r) κs) → ff-set-transform-reads.Learnt κs a r e → answer r (now (e .0)) ≡ hostAnswer (setTransform (a .1 .0) (now (a .1 .1 .0))) (now (a .0)))
 unfolding hostAnswer
 ff-set-transform-anchored κs a = (tt, λ r e h. h)
 
 pub ff-multiply-transform-anchored : (κs : Lfts 2) (a : Dens κs ff-multiply-transform-kinds.ps)
     → ff-multiply-transform-reads.Asked κs a
-    × ((r : ℕ) (e : AtExit (endedOf 2 ff-multiply-transform-kinds.ps ff-multiply-transform-kinds.r) κs) → ff-multiply-transform-reads.Learnt κs a r e → answer r (now (e .0)) ≡ hostAnswer (hostMultiplyTransform (a .1 .0) (now (a .1 .1 .0))) (now (a .0)))
+    × ((r : ℕ) (e : AtExit (endedOf 2 ff-multiply-transform-kinds.ps ff-multiply-transform-kinds.r) κs) → ff-multiply-transform-reads.Learnt κs a r e → answer r (now (e .0)) ≡ hostAnswer (multiplyTransform (a .1 .0) (now (a .1 .1 .0))) (now (a .0)))
 unfolding hostAnswer
 ff-multiply-transform-anchored κs a = (tt, λ r e h. h)
 
 pub ff-set-material-anchored : (κs : Lfts 2) (a : Dens κs ff-set-material-kinds.ps)
     → ff-set-material-reads.Asked κs a
-    × ((r : ℕ) (e : AtExit (endedOf 2 ff-set-material-kinds.ps ff-set-material-kinds.r) κs) → ff-set-material-reads.Learnt κs a r e → answer r (now (e .0)) ≡ hostAnswer (hostSetMaterial (now (a .1 .0))) (now (a .0)))
+    × ((r : ℕ) (e : AtExit (endedOf 2 ff-set-material-kinds.ps ff-set-material-kinds.r) κs) → ff-set-material-reads.Learnt κs a r e → answer r (now (e .0)) ≡ hostAnswer (setMaterial (now (a .1 .0))) (now (a .0)))
 unfolding hostAnswer
 ff-set-material-anchored κs a = (tt, λ r e h. h)
 
 pub ff-set-light-anchored : (κs : Lfts 2) (a : Dens κs ff-set-light-kinds.ps)
     → ff-set-light-reads.Asked κs a
-    × ((r : ℕ) (e : AtExit (endedOf 2 ff-set-light-kinds.ps ff-set-light-kinds.r) κs) → ff-set-light-reads.Learnt κs a r e → answer r (now (e .0)) ≡ hostAnswer (hostSetLight (a .1 .0) (now (a .1 .1 .0))) (now (a .0)))
+    × ((r : ℕ) (e : AtExit (endedOf 2 ff-set-light-kinds.ps ff-set-light-kinds.r) κs) → ff-set-light-reads.Learnt κs a r e → answer r (now (e .0)) ≡ hostAnswer (setLight (a .1 .0) (now (a .1 .1 .0))) (now (a .0)))
 unfolding hostAnswer
 ff-set-light-anchored κs a = (tt, λ r e h. h)
 
 pub ff-enable-light-anchored : (κs : Lfts 1) (a : Dens κs ff-enable-light-kinds.ps)
     → ff-enable-light-reads.Asked κs a
-    × ((r : ℕ) (e : AtExit (endedOf 1 ff-enable-light-kinds.ps ff-enable-light-kinds.r) κs) → ff-enable-light-reads.Learnt κs a r e → answer r (now (e .0)) ≡ hostAnswer (hostEnableLight (a .1 .0) (a .1 .1 .0)) (now (a .0)))
+    × ((r : ℕ) (e : AtExit (endedOf 1 ff-enable-light-kinds.ps ff-enable-light-kinds.r) κs) → ff-enable-light-reads.Learnt κs a r e → answer r (now (e .0)) ≡ hostAnswer (enableLight (a .1 .0) (a .1 .1 .0)) (now (a .0)))
 unfolding hostAnswer
 ff-enable-light-anchored κs a = (tt, λ r e h. h)
 
 pub ff-mark-anchored : (κs : Lfts 1) (a : Dens κs ff-mark-kinds.ps)
     → ff-mark-reads.Asked κs a
-    × ((r : ℕ) (e : AtExit (endedOf 1 ff-mark-kinds.ps ff-mark-kinds.r) κs) → ff-mark-reads.Learnt κs a r e → answer r (now (e .0)) ≡ hostAnswer (hostMark (a .1 .0)) (now (a .0)))
+    × ((r : ℕ) (e : AtExit (endedOf 1 ff-mark-kinds.ps ff-mark-kinds.r) κs) → ff-mark-reads.Learnt κs a r e → answer r (now (e .0)) ≡ hostAnswer (mark (a .1 .0)) (now (a .0)))
 unfolding hostAnswer
 ff-mark-anchored κs a = (tt, λ r e h. h)
 

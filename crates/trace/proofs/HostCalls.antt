@@ -19,18 +19,18 @@ use Rattle.codec.proofs.Laws.Material.{materialAt-fits}
 use Rattle.codec.proofs.Laws.Light.{lightAt-fits}
 use Rattle.image_parts.specs.Reasons as Reasons
 use Rattle.ff_state.specs.Dirty.{takeFfVsDirty}
-use Rattle.ff_state.specs.Sections.{sections}
+use Rattle.sections.specs.Sections.{sections}
 use Rattle.ff_state.specs.declared.state.FfState.{FfState}
 use Rattle.image.specs.Format.{imageBytes}
 use Rattle.image.specs.Read.{stateOf}
 use Rattle.sections.specs.declared.key.FfVsKey.{FfVsKey}
 use Rattle.d3d9_model.specs.Operations.{Operation, setTransform, multiplyTransform, setMaterial, setLight, enableLight, mark}
-use Rattle.agreement.specs.Operate.{operate, Admissible}
+use Rattle.ff_state.specs.Operate.{operate, OperationFits}
 use Rattle.calls.specs.Answer.{Answer, answered, orNext, lengthNumber}
 use Rattle.calls.specs.Call.{called, callCode, changing}
 use Rattle.refresh_calls.specs.Written.{writtenBytes}
 use Rattle.refresh_calls.specs.Mirror.{HostRefreshed, left, ffRefreshNumber, ffRefresh}
-use Rattle.trace.specs.Calls.{HostOperation, hostSetTransform, hostMultiplyTransform, hostSetMaterial, hostSetLight, hostEnableLight, hostMark, hostAnswer, ofLength, operationOf}
+use Rattle.trace.specs.Calls.{HostOperation, hostAnswer, ofLength, operationOf}
 use Rattle.trace.specs.Claim.{ItemFits}
 
 -- ---- numbers in order
@@ -68,20 +68,20 @@ code-is own len image ok = rw ok
 
 -- what the bytes say whatever their length, and 4 where the item has another
 unfoldable said : HostOperation → Operation
-said (hostSetTransform n m) = setTransform n (matrixAt m 0)
-said (hostMultiplyTransform n m) = multiplyTransform n (matrixAt m 0)
-said (hostSetMaterial m) = setMaterial (materialAt m 0)
-said (hostSetLight i l) = setLight i (lightAt l 0)
-said (hostEnableLight i on) = enableLight i (not (eqb on 0))
-said (hostMark bits) = mark bits
+said (setTransform n m) = setTransform n (matrixAt m 0)
+said (multiplyTransform n m) = multiplyTransform n (matrixAt m 0)
+said (setMaterial m) = setMaterial (materialAt m 0)
+said (setLight i l) = setLight i (lightAt l 0)
+said (enableLight i on) = enableLight i (not (eqb on 0))
+said (mark bits) = mark bits
 
 unfoldable itemNumber : HostOperation → ℕ
-itemNumber (hostSetTransform n m) = lengthNumber 64 m
-itemNumber (hostMultiplyTransform n m) = lengthNumber 64 m
-itemNumber (hostSetMaterial m) = lengthNumber 68 m
-itemNumber (hostSetLight i l) = lengthNumber 104 l
-itemNumber (hostEnableLight i on) = 0
-itemNumber (hostMark bits) = 0
+itemNumber (setTransform n m) = lengthNumber 64 m
+itemNumber (multiplyTransform n m) = lengthNumber 64 m
+itemNumber (setMaterial m) = lengthNumber 68 m
+itemNumber (setLight i l) = lengthNumber 104 l
+itemNumber (enableLight i on) = 0
+itemNumber (mark bits) = 0
 
 -- by the number, an operation or none
 abbrev BySaid : HostOperation → Option Operation → ℕ → Type 0
@@ -97,37 +97,37 @@ of-length n bytes op = go (eqb (length bytes) n) refl
 
 by-said : (h : HostOperation) → BySaid h (operationOf h) (itemNumber h)
 unfolding operationOf itemNumber said
-by-said (hostSetTransform n m) = of-length 64 m _
-by-said (hostMultiplyTransform n m) = of-length 64 m _
-by-said (hostSetMaterial m) = of-length 68 m _
-by-said (hostSetLight i l) = of-length 104 l _
-by-said (hostEnableLight i on) = inl (refl, refl)
-by-said (hostMark bits) = inl (refl, refl)
+by-said (setTransform n m) = of-length 64 m _
+by-said (multiplyTransform n m) = of-length 64 m _
+by-said (setMaterial m) = of-length 68 m _
+by-said (setLight i l) = of-length 104 l _
+by-said (enableLight i on) = inl (refl, refl)
+by-said (mark bits) = inl (refl, refl)
 
-item-fits : (h : HostOperation) → ItemFits h → Admissible (said h)
+item-fits : (h : HostOperation) → ItemFits h → OperationFits (said h)
 unfolding said
-item-fits (hostSetTransform n m) b = matrixAt-fits m 0
-item-fits (hostMultiplyTransform n m) b = matrixAt-fits m 0
-item-fits (hostSetMaterial m) b = materialAt-fits m 0
-item-fits (hostSetLight i l) b = (b .0, lightAt-fits l 0 (b .1))
-item-fits (hostEnableLight i on) b = b
-item-fits (hostMark bits) b = tt
+item-fits (setTransform n m) b = matrixAt-fits m 0
+item-fits (multiplyTransform n m) b = matrixAt-fits m 0
+item-fits (setMaterial m) b = materialAt-fits m 0
+item-fits (setLight i l) b = (b .0, lightAt-fits l 0 (b .1))
+item-fits (enableLight i on) b = b
+item-fits (mark bits) b = tt
 
 -- each is a call by value over an image
 answer-is : (h : HostOperation) (image : List ℕ)
     → hostAnswer h image ≡ changing (λ s. called (operate s (said h) .number) (operate s (said h) .state)) (itemNumber h) image
 unfolding hostAnswer said itemNumber operate
-answer-is (hostSetTransform n m) image = refl
-answer-is (hostMultiplyTransform n m) image = refl
-answer-is (hostSetMaterial m) image = refl
-answer-is (hostSetLight i l) image = refl
-answer-is (hostEnableLight i on) image = refl
-answer-is (hostMark bits) image = refl
+answer-is (setTransform n m) image = refl
+answer-is (multiplyTransform n m) image = refl
+answer-is (setMaterial m) image = refl
+answer-is (setLight i l) image = refl
+answer-is (enableLight i on) image = refl
+answer-is (mark bits) image = refl
 
 -- what it leaves: an operation's image, or the image as found
 pub data HostLeaves (image : List ℕ) (o : Option Operation) (bytes : List ℕ) : Type 0 where
-  done : (op : Operation) → o ≡ some op → Admissible op → operate (stateOf image) op .number ≡ 0 → bytes ≡ imageBytes (operate (stateOf image) op .state) → HostLeaves image o bytes
-  refused : (op : Operation) → o ≡ some op → Admissible op → (operate (stateOf image) op .number ≡ 0 → ⊥) → bytes ≡ image → HostLeaves image o bytes
+  done : (op : Operation) → o ≡ some op → OperationFits op → operate (stateOf image) op .number ≡ 0 → bytes ≡ imageBytes (operate (stateOf image) op .state) → HostLeaves image o bytes
+  refused : (op : Operation) → o ≡ some op → OperationFits op → (operate (stateOf image) op .number ≡ 0 → ⊥) → bytes ≡ image → HostLeaves image o bytes
   other : o ≡ none → bytes ≡ image → HostLeaves image o bytes
 
 module _ (h : HostOperation) (image : List ℕ) (ok : Reasons.refused image ≡ false) where

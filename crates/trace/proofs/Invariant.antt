@@ -9,13 +9,13 @@ use mathlib.Core.Option.{some}
 use lib.Ieee.{Float}
 use lib.ListN.{length, set, length-set}
 use Rattle.lemmas.proofs.Tests.{never}
-use Rattle.light_table.specs.Bits.{hasBit}
+use Rattle.words.specs.Bits.{hasBit}
 use Rattle.ff_state.specs.Dirty.{takeFfVsDirty}
-use Rattle.ff_state.specs.Sections.{sections, hasSection}
+use Rattle.sections.specs.Sections.{sections, hasSection}
 use Rattle.ff_state.specs.State.{freshState}
 use Rattle.ff_state.specs.Valid.{Valid}
-use Rattle.ff_state.specs.declared.sections.Section.{Section}
-use Rattle.ff_state.specs.declared.sections.Section.the-variants.{Wv, Proj, Material, Lights, Palette, Tt}
+use Rattle.sections.specs.declared.sections.Section.{Section}
+use Rattle.sections.specs.declared.sections.Section.the-variants.{Wv, Proj, Material, Lights, Palette, Tt}
 use Rattle.ff_state.specs.declared.state.FfState.{FfState}
 use Rattle.image_parts.specs.Reasons.{refused}
 use Rattle.image.specs.Format.{imageBytes}
@@ -28,7 +28,7 @@ use Rattle.image_laws.proofs.ValidAccepted.{valid-accepted}
 use Rattle.sections.specs.declared.key.FfVsKey.{FfVsKey}
 use Rattle.d3d9_model.specs.Operations.{Operation}
 use Rattle.agreement.specs.Agrees.{Agrees}
-use Rattle.agreement.specs.Operate.{operate, Admissible}
+use Rattle.ff_state.specs.Operate.{operate, OperationFits}
 use Rattle.agreement.proofs.Dirty.{taken-valid, taken-agrees}
 use Rattle.agreement.proofs.Fresh.{fresh-valid, fresh-agrees}
 use Rattle.agreement.proofs.Kept.{valid-kept, agrees-kept}
@@ -112,7 +112,7 @@ after-image {w} inv bytes a h st =
     }
 
 module _ {w : World} {s : FfState} (inv : Invariant w s) where
-  pub after-operated : (op : Operation) → Admissible op → (h : Stored) → Stands h (operate s op .state) → Invariant (standing h (operated op w)) (operate s op .state)
+  pub after-operated : (op : Operation) → OperationFits op → (h : Stored) → Stands h (operate s op .state) → Invariant (standing h (operated op w)) (operate s op .state)
   unfolding standing operated trackMarked
   after-operated op fit h st =
       record {

@@ -2,7 +2,7 @@
 -- Assumes nothing.
 use Prim.Native.Nat.{ℕ}
 use native.Mathlib.Omega.{arith}
-use mathlib.Core.Path.{_≡_, refl, sym, ap, subst, _∙_}
+use mathlib.Core.Path.{_≡_, refl, sym, ap, _∙_}
 use mathlib.Core.Bool.{Bool, true, false, _&&_}
 use lib.Bits.{bitOr}
 use lib.Dec.{eqb, ltb, leb}
@@ -12,24 +12,23 @@ use Rattle.lemmas.proofs.Tests.{neither}
 use Rattle.d3d9_types.specs.Light.{defaultLight}
 use Rattle.d3d9_types.specs.declared.matrix.D3DMATRIX.{D3DMATRIX}
 use Rattle.d3d9_types.specs.declared.light.D3DLIGHT9.{D3DLIGHT9}
-use Rattle.light_table.specs.Bits.{hasBit}
+use Rattle.words.specs.Bits.{hasBit}
 use Rattle.light_table.specs.Overflow.{usedCount}
 use Rattle.light_table.specs.declared.entry.OverflowLight.{OverflowLight}
 use Rattle.light_table.specs.declared.overflow.Found.{Found}
-use Rattle.light_table.proofs.Words.{has-or}
+use Rattle.words.proofs.Words.{has-or}
 use Rattle.ff_state.specs.Dirty.{dirtied, markFfVsDirty, markNumber}
-use Rattle.ff_state.specs.Inputs.{sameInputs, Change, setsTransform, multipliesTransform, setsMaterial, setsLight, enablesLight, changed}
-use Rattle.ff_state.specs.Inputs as Inputs
+use Rattle.ff_state.specs.Inputs.{sameInputs}
 use Rattle.ff_state.specs.Lights.{setLightAt, setLightEnabledAt, changeEntry, replaceEntry, insertEntry, lightsBit, lightNumber}
 use Rattle.ff_state.specs.Material as Materials
-use Rattle.ff_state.specs.Sections.{bitPlace, hasSection, allBits}
+use Rattle.sections.specs.Sections.{bitPlace, hasSection, allBits}
 use Rattle.ff_state.specs.Slots.{setSlot, defineSlot, enableSlot}
 use Rattle.ff_state.specs.Transforms.{slotOf, placeBits, placed, changeAt, transformNumber}
 use Rattle.ff_state.specs.Transforms as Transforms
 use Rattle.ff_state.specs.Valid.{Valid}
 use Rattle.ff_state.specs.declared.dirty.Marked.{Marked}
 use Rattle.ff_state.specs.declared.lights.LightChanged.{LightChanged}
-use Rattle.ff_state.specs.declared.sections.Section.{Section}
+use Rattle.sections.specs.declared.sections.Section.{Section}
 use Rattle.ff_state.specs.declared.state.FfState.{FfState}
 use Rattle.ff_state.specs.declared.transforms.Place.{Place}
 use Rattle.ff_state.specs.declared.transforms.Place.the-variants as Places
@@ -39,9 +38,9 @@ use Rattle.ff_state.proofs.Frame.{unmarked-same}
 use Rattle.d3d9_model.specs.State.{AbstractState}
 use Rattle.d3d9_model.specs.Operations.{Operation, setTransform, multiplyTransform, setMaterial, setLight, enableLight, mark, abstractRefusal}
 use Rattle.agreement.specs.Agrees.{Agrees}
-use Rattle.agreement.specs.Operate.{operate}
+use Rattle.ff_state.specs.Operate.{operate}
 use Rattle.agreement.proofs.Kept.{refused-alike}
-use Rattle.image_agreement.proofs.Refused.{refused-same}
+use Rattle.agreement.proofs.Refused.{refused-same}
 use Rattle.trace.specs.Calls.{slotBits, operationBits}
 use Rattle.trace.specs.World.{marks}
 
@@ -98,23 +97,6 @@ accepted-bits s (setLight i l) e = set-adds s i l e
 accepted-bits s (enableLight i on) e = enable-adds s i on e
 accepted-bits s (mark bits) e = mark-adds s bits e
 
-changeOf : Operation → Change
-changeOf (setTransform n m) = setsTransform n m
-changeOf (multiplyTransform n m) = multipliesTransform n m
-changeOf (setMaterial m) = setsMaterial m
-changeOf (setLight i l) = setsLight i l
-changeOf (enableLight i on) = enablesLight i on
-changeOf (mark bits) = Inputs.marks bits
-
-changed-is : (s : FfState) (op : Operation) → changed s (changeOf op) ≡ operate s op .state
-unfolding changed operate changeOf
-changed-is s (setTransform n m) = refl
-changed-is s (multiplyTransform n m) = refl
-changed-is s (setMaterial m) = refl
-changed-is s (setLight i l) = refl
-changed-is s (enableLight i on) = refl
-changed-is s (mark bits) = refl
-
 -- ---- a section without its bit afterwards
 
 pub record Unmarked (s : FfState) (a : AbstractState) (op : Operation) (σ : Section) : Type 0 where
@@ -131,9 +113,7 @@ left-clean {s} {a} v g op σ off = go (eqb (abstractRefusal a op) 0) refl
     number = refused-alike v g op
 
     same : sameInputs σ s (operate s op .state)
-    same =
-        subst (λ (t : FfState). sameInputs σ s t) (changed-is s op)
-        (unmarked-same s (changeOf op) σ (ap (λ (t : FfState). hasSection (t .«ff_vs_dirty») σ) (changed-is s op) ∙ off))
+    same = unmarked-same s op σ off
 
     go : (t : Bool) → eqb (abstractRefusal a op) 0 ≡ t → Unmarked s a op σ
     go true q =

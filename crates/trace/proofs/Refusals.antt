@@ -10,7 +10,7 @@ use lib.Ieee.{Float}
 use lib.ListN.{length}
 use borrow.Author.Tests.{eqb-true}
 use Rattle.ff_state.specs.Valid.{Valid}
-use Rattle.ff_state.specs.declared.sections.Section.the-variants.{Lights}
+use Rattle.sections.specs.declared.sections.Section.the-variants.{Lights}
 use Rattle.ff_state.specs.declared.state.FfState.{FfState}
 use Rattle.sections.specs.declared.key.FfVsKey.{FfVsKey}
 use Rattle.packing.specs.Inputs.{Inputs, maskAccepted}

@@ -24,17 +24,16 @@ use Rattle.ff_state.specs.Dirty.{dirtied, takeFfVsDirty}
 use Rattle.ff_state.specs.State.{freshState}
 use Rattle.ff_state.specs.Transforms.{slotOf, placeSections, placed, changeAt}
 use Rattle.ff_state.specs.Transforms as Transforms
-use Rattle.ff_state.specs.declared.sections.Section.the-variants.{Proj}
+use Rattle.sections.specs.declared.sections.Section.the-variants.{Proj}
 use Rattle.ff_state.specs.declared.state.FfState.{FfState}
 use Rattle.rows.specs.Rows.{floats, rowsOf}
 use Rattle.rows.specs.Matrices.{projectionRows}
-use Rattle.sections.specs.Shape.{sectionShape}
 use Rattle.sections.specs.declared.key.FfVsKey.{FfVsKey}
 use Rattle.packing.specs.Inputs.{packedRows, maskAccepted}
 use Rattle.d3d9_model.specs.State.{AbstractState, freshAbstract}
 use Rattle.d3d9_model.specs.Operations.{Operation, setTransform, known, abstractRefusal, abstractChange, abstractStep}
 use Rattle.packing_laws.specs.Abstract.{abstractInputs, abstractRows}
-use Rattle.agreement.specs.Operate.{operate}
+use Rattle.ff_state.specs.Operate.{operate}
 use Rattle.agreement.proofs.Fresh.{fresh-valid}
 use Rattle.refresh.specs.Answer.{refreshAnswer}
 use Rattle.refresh.specs.Mirror.{Outcome, refreshed, refreshMirror}
@@ -89,7 +88,7 @@ unfolding start freshTrack
 first-admissible R = (refresh-may (start nans) key (omega arith) (omega arith) (omega arith) (first-marked nans key), tt)
 
 pub writes-nothing-refuted : AlwaysRight writesNothing → ⊥
-unfolding run step slice standing refreshedIf leaving tracking withMirror trackRefreshed start freshTrack acceptedKey accepts refreshRefusal maskAccepted differing rowDiffers countBelow alikeAt alike abstractRows abstractInputs packedRows freshAbstract projectionRows transposed column row floats rowsOf sectionShape identity toBits isNan
+unfolding run step slice standing refreshedIf leaving tracking withMirror trackRefreshed start freshTrack acceptedKey accepts refreshRefusal maskAccepted differing rowDiffers countBelow alikeAt alike abstractRows abstractInputs packedRows freshAbstract projectionRows transposed column row floats rowsOf identity toBits isNan
 writes-nothing-refuted claim =
     let none : _≡_ {A = ℕ} 4 0 = claim nans refl [] (refresh key (theMirror nans)) key (first-admissible writesNothing) refl Proj refl in
     omega (arith, none)
@@ -121,7 +120,7 @@ zero-admissible =
     (host-refresh-may (start (mirrorFloats zeros)) key (omega arith) (omega arith) (omega arith) (first-marked (mirrorFloats zeros) key) zeros zeros-bytes refl, tt)
 
 zeros-differ : differing (mirrorFloats zeros) key freshAbstract Proj ≡ 4
-unfolding differing rowDiffers countBelow alikeAt alike abstractRows abstractInputs packedRows freshAbstract projectionRows transposed column row floats rowsOf sectionShape identity toBits isNan floatAt listAt littleNumber ofBits
+unfolding differing rowDiffers countBelow alikeAt alike abstractRows abstractInputs packedRows freshAbstract projectionRows transposed column row floats rowsOf identity toBits isNan floatAt listAt littleNumber ofBits
 zeros-differ = refl
 
 pub host-writes-nothing-refuted : AlwaysRight hostWritesNothing → ⊥
@@ -181,7 +180,7 @@ first-float m p e = go (alike (getD m 16 nan) (getD p 0 nan)) refl
 
 -- no mirror has both projections in its rows 4 to 7
 not-both : (m : List Float) → differing m key freshAbstract Proj ≡ 0 → differing m key turnedAbstract Proj ≡ 0 → ⊥
-unfolding differing abstractRows abstractInputs packedRows abstractStep abstractRefusal abstractChange known freshAbstract projectionRows transposed column row floats rowsOf sectionShape identity
+unfolding differing abstractRows abstractInputs packedRows abstractStep abstractRefusal abstractChange known freshAbstract projectionRows transposed column row floats rowsOf identity
 not-both m p q =
     one-or-two (getD m 16 nan)
     (first-float m (floats (abstractRows Proj freshAbstract key)) (none-differs _ 4 p 0 (omega arith)))

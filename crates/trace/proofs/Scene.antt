@@ -11,23 +11,22 @@ use lib.ListN.{length}
 use Rattle.lemmas.proofs.Tests.{never}
 use Rattle.d3d9_types.specs.Matrix.{matrixFits}
 use Rattle.d3d9_types.specs.declared.matrix.D3DMATRIX.{D3DMATRIX}
-use Rattle.light_table.specs.Bits.{hasBit}
-use Rattle.ff_state.specs.Sections.{sections}
+use Rattle.words.specs.Bits.{hasBit}
+use Rattle.sections.specs.Sections.{sections}
 use Rattle.ff_state.specs.State.{freshState}
-use Rattle.ff_state.specs.declared.sections.Section.{Section}
-use Rattle.ff_state.specs.declared.sections.Section.the-variants.{Wv, Proj, Material, Lights, Palette, Tt}
+use Rattle.sections.specs.declared.sections.Section.{Section}
+use Rattle.sections.specs.declared.sections.Section.the-variants.{Wv, Proj, Material, Lights, Palette, Tt}
 use Rattle.rows.specs.Rows.{rowsOf}
 use Rattle.rows.specs.Matrices.{worldViewRows, projectionRows, paletteRows}
 use Rattle.rows.specs.Material.{materialRows}
 use Rattle.light_rows.specs.Light.{lightsRows}
 use Rattle.sections.specs.Counts.{paletteMatrices}
 use Rattle.sections.specs.Key.{SameShape}
-use Rattle.sections.specs.Shape.{sectionShape}
 use Rattle.sections.specs.declared.key.FfVsKey.{FfVsKey}
 use Rattle.packing.specs.Inputs.{packedRows, maskAccepted}
 use Rattle.d3d9_model.specs.State.{AbstractState}
 use Rattle.d3d9_model.specs.Operations.{Operation, setTransform, mark, abstractRefusal}
-use Rattle.agreement.specs.Operate as Operate
+use Rattle.ff_state.specs.Operate as Operate
 use Rattle.packing_laws.specs.Abstract.{abstractInputs, abstractRows}
 use Rattle.trace.specs.Calls.{theMirror, slice, Call, own, refresh, overwrite, operationBits}
 use Rattle.trace.specs.Count.{rowsUnder}
@@ -126,10 +125,10 @@ module _ {w : World} {letOff : Section → Bool} (f : Facts w letOff) where
         needs = λ σ. ap (λ (t : Track). t .needsMarking σ) is ∙ ap (λ (e : Bool). e && not (marks (w .abstract) op σ)) (f .needs σ);
       }
 
-  hit-are : (r : ℕ) (σ : Section) → hits r (w .track) σ ≡ isRow r σ key (keyRows σ)
-  hit-are r σ = hits-is r (w .track) σ key (f .last) ∙ ap (isRow r σ key) (f .rows σ)
+  hit-are : (r : ℕ) (σ : Section) → hits r (w .track) σ ≡ isRow r σ (keyRows σ)
+  hit-are r σ = hits-is r (w .track) σ key (f .last) ∙ ap (isRow r σ) (f .rows σ)
 
-  after-overwrite : (r : ℕ) (x y z t : Float) → Facts (step ours (overwrite r x y z t) w) (λ σ. letOff σ || isRow r σ key (keyRows σ))
+  after-overwrite : (r : ℕ) (x y z t : Float) → Facts (step ours (overwrite r x y z t) w) (λ σ. letOff σ || isRow r σ (keyRows σ))
   unfolding step tracking trackOverwritten
   after-overwrite r x y z t =
       record {
@@ -141,12 +140,12 @@ module _ {w : World} {letOff : Section → Bool} (f : Facts w letOff) where
       }
 
 -- row 4 is PROJ's first, and row 8 has no section
-pub row-4-hits : map (λ σ. isRow 4 σ key (keyRows σ)) sections ≡ false ∷ true ∷ false ∷ false ∷ false ∷ false ∷ []
-unfolding isRow sectionShape
+pub row-4-hits : map (λ σ. isRow 4 σ (keyRows σ)) sections ≡ false ∷ true ∷ false ∷ false ∷ false ∷ false ∷ []
+unfolding isRow
 row-4-hits = refl
 
-pub row-8-hits : map (λ σ. isRow 8 σ key (keyRows σ)) sections ≡ false ∷ false ∷ false ∷ false ∷ false ∷ false ∷ []
-unfolding isRow sectionShape
+pub row-8-hits : map (λ σ. isRow 8 σ (keyRows σ)) sections ≡ false ∷ false ∷ false ∷ false ∷ false ∷ false ∷ []
+unfolding isRow
 row-8-hits = refl
 
 abbrev isProj : Section → Bool
@@ -157,8 +156,8 @@ isProj Lights = false
 isProj Palette = false
 isProj Tt = false
 
-not-hit : (σ : Section) → isProj σ ≡ false → isRow 4 σ key (keyRows σ) ≡ false
-unfolding isRow sectionShape
+not-hit : (σ : Section) → isProj σ ≡ false → isRow 4 σ (keyRows σ) ≡ false
+unfolding isRow
 not-hit Wv e = refl
 not-hit Proj e = never e
 not-hit Material e = refl
@@ -167,8 +166,8 @@ not-hit Palette e = refl
 not-hit Tt e = refl
 
 -- bit 2 is PROJ's
-marked-again : (a : AbstractState) (σ : Section) → (isRow 4 σ key (keyRows σ) && not (marks a (mark 2) σ)) ≡ false
-unfolding isRow sectionShape marks abstractRefusal operationBits hasBit
+marked-again : (a : AbstractState) (σ : Section) → (isRow 4 σ (keyRows σ) && not (marks a (mark 2) σ)) ≡ false
+unfolding isRow marks abstractRefusal operationBits hasBit
 marked-again a Wv = refl
 marked-again a Proj = refl
 marked-again a Material = refl
@@ -211,19 +210,19 @@ module _ (m : List Float) (long : length m ≡ 4460) where
     abbrev w₃ : World
     w₃ = step ours (overwrite 4 x y z t) w₂
 
-    third : Facts w₃ (λ σ. isRow 4 σ key (keyRows σ))
+    third : Facts w₃ (λ σ. isRow 4 σ (keyRows σ))
     third = after-overwrite second 4 x y z t
 
     abbrev w₄ : World
     w₄ = step ours (refreshing w₃) w₃
 
-    fourth : Facts w₄ (λ σ. isRow 4 σ key (keyRows σ))
+    fourth : Facts w₄ (λ σ. isRow 4 σ (keyRows σ))
     fourth = after-refresh third
 
     abbrev w₅ : World
     w₅ = step ours (own (mark 2)) w₄
 
-    fifth : Facts w₅ (λ σ. isRow 4 σ key (keyRows σ) && not (marks (w₄ .abstract) (mark 2) σ))
+    fifth : Facts w₅ (λ σ. isRow 4 σ (keyRows σ) && not (marks (w₄ .abstract) (mark 2) σ))
     fifth = after-own fourth (mark 2) (mark-may w₄ 2)
 
     abbrev w₆ : World

@@ -6,10 +6,10 @@ use mathlib.Core.Bool.{false}
 use mathlib.Core.List.{List}
 use mathlib.Core.Option.{Option, none, some}
 use lib.Ieee.{Float}
-use Rattle.ff_state.specs.declared.sections.Section.{Section}
+use Rattle.sections.specs.declared.sections.Section.{Section}
 use Rattle.sections.specs.declared.key.FfVsKey.{FfVsKey}
 use Rattle.d3d9_model.specs.Operations.{Operation, abstractStep}
-use Rattle.agreement.specs.Operate.{operate}
+use Rattle.ff_state.specs.Operate.{operate}
 use Rattle.refresh_calls.specs.Written.{mirrorFloats}
 use Rattle.trace.specs.Calls.{Lent, theMirror, another, slice, refreshes, own, refresh, host}
 use Rattle.trace.specs.Count.{rowsUnder}

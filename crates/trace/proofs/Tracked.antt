@@ -15,22 +15,22 @@ use borrow.Author.Tests.{ltb-false, leb-false}
 use Rattle.lemmas.proofs.Tests.{never, test}
 use Rattle.d3d9_types.specs.declared.matrix.Row.{Row}
 use Rattle.ff_state.specs.Inputs.{sameInputs}
-use Rattle.ff_state.specs.Sections.{sections, hasSection}
+use Rattle.sections.specs.Sections.{sections, hasSection}
 use Rattle.ff_state.specs.Valid.{Valid}
-use Rattle.ff_state.specs.declared.sections.Section.{Section}
-use Rattle.ff_state.specs.declared.sections.Section.the-variants.{Wv, Proj, Material, Lights, Palette, Tt}
+use Rattle.sections.specs.declared.sections.Section.{Section}
+use Rattle.sections.specs.declared.sections.Section.the-variants.{Wv, Proj, Material, Lights, Palette, Tt}
 use Rattle.ff_state.specs.declared.state.FfState.{FfState}
 use Rattle.rows.specs.Rows.{floats}
 use Rattle.rows.proofs.Floats.{length-floats}
-use Rattle.sections.specs.Key.{SameShape, noTextures}
-use Rattle.sections.specs.Shape.{sectionShape, sectionRows, firstRow}
+use Rattle.sections.specs.Key.{SameShape}
+use Rattle.sections.specs.Sections.{firstRow}
 use Rattle.sections.specs.declared.key.FfVsKey.{FfVsKey}
 use Rattle.packing.specs.Inputs.{packedRows}
 use Rattle.packing.proofs.Depends.{same-rows, shape-rows, shape-count}
 use Rattle.d3d9_model.specs.State.{AbstractState}
 use Rattle.d3d9_model.specs.Operations.{Operation, abstractStep}
 use Rattle.agreement.specs.Agrees.{Agrees}
-use Rattle.agreement.specs.Operate.{operate, Admissible}
+use Rattle.ff_state.specs.Operate.{operate, OperationFits}
 use Rattle.agreement.proofs.Kept.{valid-kept, agrees-kept}
 use Rattle.packing_laws.specs.Abstract.{abstractInputs, abstractRows}
 use Rattle.packing_laws.proofs.Agreement.{inputs-agree, rows-agree}
@@ -43,6 +43,7 @@ use Rattle.trace.specs.World.{Track, withMirror, trackMarked, trackReadI
 use Rattle.trace.specs.Claim.{OfFive}
 use Rattle.trace.proofs.Marks.{Unmarked, left-clean}
 use Rattle.trace.proofs.Shapes.{same-shape}
+use Rattle.packing.specs.Pack.{inputRows}
 
 -- the floats of a section's packing of the abstract state
 abbrev pub abstractFloats : Section → AbstractState → FfVsKey → List Float
@@ -52,8 +53,8 @@ abstractFloats σ a k = floats (abstractRows σ a k)
 pub record Right (a : AbstractState) (t : Track) (σ : Section) (k : FfVsKey) : Type 0 where
   pub last : t .lastKey ≡ some k
   pub rows : t .rowsAtLastRefresh σ ≡ rowsUnder k a σ
-  pub whole : rowsUnder k a σ ≡ sectionRows σ k noTextures
-  pub holds : Holds (t .mirror) (firstFloat σ k) (abstractFloats σ a k)
+  pub whole : rowsUnder k a σ ≡ inputRows σ k (abstractInputs a)
+  pub holds : Holds (t .mirror) (firstFloat σ) (abstractFloats σ a k)
 
 -- of a state, the abstract one and what is kept of a mirror
 pub data Tracked (s : FfState) (a : AbstractState) (t : Track) (σ : Section) : Type 0 where
@@ -64,7 +65,7 @@ pub data Tracked (s : FfState) (a : AbstractState) (t : Track) (σ : Section) : 
 
 -- ---- an operation
 
-module _ {s : FfState} {a : AbstractState} (v : Valid s) (g : Agrees s a) (op : Operation) (fit : Admissible op) (t : Track) (σ : Section) where
+module _ {s : FfState} {a : AbstractState} (v : Valid s) (g : Agrees s a) (op : Operation) (fit : OperationFits op) (t : Track) (σ : Section) where
   rows-stay : sameInputs σ s (operate s op .state) → (k : FfVsKey) → abstractRows σ a k ≡ abstractRows σ (abstractStep a op) k
   unfolding abstractRows
   rows-stay e k =
@@ -73,7 +74,7 @@ module _ {s : FfState} {a : AbstractState} (v : Valid s) (g : Agrees s a) (op : 
       ∙ ap (packedRows σ k) (inputs-agree (valid-kept v op fit) (agrees-kept v g op fit))
 
   pub operation-tracked : Tracked s a t σ → Tracked (operate s op .state) (abstractStep a op) (trackMarked (marks a op) t) σ
-  unfolding trackMarked
+  unfolding trackMarked abstractInputs
   operation-tracked was = go (test (hasSection (operate s op .state .«ff_vs_dirty») σ))
     where
       pass : Unmarked s a op σ → Tracked s a t σ → Tracked (operate s op .state) (abstractStep a op) (trackMarked (marks a op) t) σ
@@ -87,7 +88,7 @@ module _ {s : FfState} {a : AbstractState} (v : Valid s) (g : Agrees s a) (op : 
             last = r .last;
             rows = r .rows ∙ ap (λ (x : List Row). length x) e;
             whole = ap (λ (x : List Row). length x) (sym e) ∙ r .whole;
-            holds = subst (λ (x : List Row). Holds (t .mirror) (firstFloat σ k) (floats x)) e (r .holds);
+            holds = subst (λ (x : List Row). Holds (t .mirror) (firstFloat σ) (floats x)) e (r .holds);
           })
 
       go : (hasSection (operate s op .state .«ff_vs_dirty») σ ≡ true) ⊎ (hasSection (operate s op .state .«ff_vs_dirty») σ ≡ false)
@@ -104,13 +105,13 @@ image-tracked s a t σ = unread refl
 -- ---- a row that is overwritten
 
 -- a row that a section did not have is before or behind it
-missed : (r : ℕ) (σ : Section) (k : FfVsKey) (n : ℕ) → isRow r σ k n ≡ false → (r < firstRow σ k noTextures) ⊎ (firstRow σ k noTextures + n ≤ r)
+missed : (r : ℕ) (σ : Section) (n : ℕ) → isRow r σ n ≡ false → (r < firstRow σ) ⊎ (firstRow σ + n ≤ r)
 unfolding isRow
-missed r σ k n e = go (leb (firstRow σ k noTextures) r) refl
+missed r σ n e = go (leb (firstRow σ) r) refl
   where
-    go : (t : Bool) → leb (firstRow σ k noTextures) r ≡ t → (r < firstRow σ k noTextures) ⊎ (firstRow σ k noTextures + n ≤ r)
-    go true q = inr (ltb-false r (firstRow σ k noTextures + n) (rw q at e))
-    go false q = inl (leb-false (firstRow σ k noTextures) r q)
+    go : (t : Bool) → leb (firstRow σ) r ≡ t → (r < firstRow σ) ⊎ (firstRow σ + n ≤ r)
+    go true q = inr (ltb-false r (firstRow σ + n) (rw q at e))
+    go false q = inl (leb-false (firstRow σ) r q)
 
 module _ (m p : List Float) (r f n : ℕ) (x y z u : Float) (full : length p ≡ 4 * n) (c : (r < f) ⊎ (f + n ≤ r)) where
   other : (j i : ℕ) → j < length p → i < 4 → 4 * f + j ≡ 4 * r + i → ⊥
@@ -128,7 +129,7 @@ module _ (m p : List Float) (r f n : ℕ) (x y z u : Float) (full : length p ≡
       ∙ getD-set-other m (4 * r) (4 * f + j) x nan (λ (e : 4 * f + j ≡ 4 * r). other j 0 small (omega arith) (omega (arith, e)))
       ∙ h j small
 
-pub hits-is : (r : ℕ) (t : Track) (σ : Section) (k : FfVsKey) → t .lastKey ≡ some k → hits r t σ ≡ isRow r σ k (t .rowsAtLastRefresh σ)
+pub hits-is : (r : ℕ) (t : Track) (σ : Section) (k : FfVsKey) → t .lastKey ≡ some k → hits r t σ ≡ isRow r σ (t .rowsAtLastRefresh σ)
 unfolding hits
 hits-is r t σ k e = rw e
 
@@ -137,9 +138,9 @@ unfolding trackOverwritten
 overwrite-tracked s a t r x y z u σ (dirty e) = dirty e
 overwrite-tracked s a t r x y z u σ (unread e) = unread e
 overwrite-tracked s a t r x y z u σ (hit m e) = hit m (rw e)
-overwrite-tracked s a t r x y z u σ (right m k h) = go (test (isRow r σ k (t .rowsAtLastRefresh σ)))
+overwrite-tracked s a t r x y z u σ (right m k h) = go (test (isRow r σ (t .rowsAtLastRefresh σ)))
   where
-    go : (isRow r σ k (t .rowsAtLastRefresh σ) ≡ true) ⊎ (isRow r σ k (t .rowsAtLastRefresh σ) ≡ false) → Tracked s a (trackOverwritten r x y z u t) σ
+    go : (isRow r σ (t .rowsAtLastRefresh σ) ≡ true) ⊎ (isRow r σ (t .rowsAtLastRefresh σ) ≡ false) → Tracked s a (trackOverwritten r x y z u t) σ
     go (inl q) = hit m (rw (hits-is r t σ k (h .last) ∙ q) (or-true (t .exempt σ)))
     go (inr q) =
         right m k
@@ -148,21 +149,12 @@ overwrite-tracked s a t r x y z u σ (right m k h) = go (test (isRow r σ k (t .
           rows = h .rows;
           whole = h .whole;
           holds =
-              overwrite-holds (t .mirror) (abstractFloats σ a k) r (firstRow σ k noTextures) (t .rowsAtLastRefresh σ) x y z u
+              overwrite-holds (t .mirror) (abstractFloats σ a k) r (firstRow σ) (t .rowsAtLastRefresh σ) x y z u
               (length-floats (abstractRows σ a k) ∙ ap (λ (n : ℕ). 4 * n) (sym (h .rows)))
-              (missed r σ k (t .rowsAtLastRefresh σ) q) (h .holds);
+              (missed r σ (t .rowsAtLastRefresh σ) q) (h .holds);
         })
 
 -- ---- a refresh that is accepted
-
-first-same : (σ : Section) (j k : FfVsKey) → firstFloat σ j ≡ firstFloat σ k
-unfolding sectionShape
-first-same Wv j k = refl
-first-same Proj j k = refl
-first-same Material j k = refl
-first-same Lights j k = refl
-first-same Palette j k = refl
-first-same Tt j k = refl
 
 -- TT has no rows, so that it is right always
 of-five : (σ : Section) → OfFive σ ⊎ (σ ≡ Tt)
@@ -190,22 +182,23 @@ module _ {s : FfState} {a : AbstractState} (v : Valid s) (g : Agrees s a) (t : T
   unfolding abstractRows
   shape-floats j e = ap floats (shape-rows e (abstractInputs a) σ)
 
-  same-holds : (j : FfVsKey) → SameShape j k → hasSection (s .«ff_vs_dirty») σ ≡ false → Right a t σ j → Holds after (firstFloat σ k) (abstractFloats σ a k)
+  same-holds : (j : FfVsKey) → SameShape j k → hasSection (s .«ff_vs_dirty») σ ≡ false → Right a t σ j → Holds after (firstFloat σ) (abstractFloats σ a k)
+  unfolding abstractInputs
   same-holds j e off r =
-      let full : length (abstractFloats σ a j) ≡ 4 * sectionRows σ k noTextures =
-      length-floats (abstractRows σ a j) ∙ ap (λ (n : ℕ). 4 * n) (r .whole ∙ shape-count e σ) in
-      subst (λ (p : List Float). Holds after (firstFloat σ k) p) (shape-floats j e)
+      let full : length (abstractFloats σ a j) ≡ 4 * inputRows σ k (abstractInputs a) =
+      length-floats (abstractRows σ a j) ∙ ap (λ (n : ℕ). 4 * n) (r .whole ∙ shape-count e σ (abstractInputs a .textureMask)) in
+      subst (λ (p : List Float). Holds after (firstFloat σ) p) (shape-floats j e)
       (written-off ready (s .«ff_vs_dirty») sections σ off (t .mirror) (abstractFloats σ a j) long full
-      (subst (λ (n : ℕ). Holds (t .mirror) n (abstractFloats σ a j)) (first-same σ j k) (r .holds)))
+      (r .holds))
 
   -- a section is then right, unless it is exempt
-  pub refresh-rights : Tracked s a t σ → (t .exempt σ ≡ true) ⊎ Holds after (firstFloat σ k) (abstractFloats σ a k)
-  refresh-rights was = ⊎-elim (λ (five : OfFive σ). go five (test (hasSection (s .«ff_vs_dirty») σ)) was) (λ (e : σ ≡ Tt). inr (empty-holds after (firstFloat σ k) σ a k e)) (of-five σ)
+  pub refresh-rights : Tracked s a t σ → (t .exempt σ ≡ true) ⊎ Holds after (firstFloat σ) (abstractFloats σ a k)
+  refresh-rights was = ⊎-elim (λ (five : OfFive σ). go five (test (hasSection (s .«ff_vs_dirty») σ)) was) (λ (e : σ ≡ Tt). inr (empty-holds after (firstFloat σ) σ a k e)) (of-five σ)
     where
       go : OfFive σ → (hasSection (s .«ff_vs_dirty») σ ≡ true) ⊎ (hasSection (s .«ff_vs_dirty») σ ≡ false) → Tracked s a t σ
-          → (t .exempt σ ≡ true) ⊎ Holds after (firstFloat σ k) (abstractFloats σ a k)
+          → (t .exempt σ ≡ true) ⊎ Holds after (firstFloat σ) (abstractFloats σ a k)
       go five (inl on) was =
-          inr (subst (λ (p : List Float). Holds after (firstFloat σ k) p) (rows-agree v g σ k) (written-on ready (s .«ff_vs_dirty») sections σ (every-in σ) on (t .mirror) long))
+          inr (subst (λ (p : List Float). Holds after (firstFloat σ) p) (rows-agree v g σ k) (written-on ready (s .«ff_vs_dirty») sections σ (every-in σ) on (t .mirror) long))
       go five (inr off) (dirty e) = never (sym e ∙ off)
       go five (inr off) (unread e) = never (sym e ∙ kept .image σ five)
       go five (inr off) (hit m e) = inl e
@@ -215,7 +208,8 @@ module _ {s : FfState} {a : AbstractState} (v : Valid s) (g : Agrees s a) (t : T
           (λ (n : SameShape j k → ⊥). never (sym (kept .shape j (r .last) n σ five) ∙ m))
           (same-shape j k)
 
-  rows-whole : rowsUnder k a σ ≡ sectionRows σ k noTextures
+  rows-whole : rowsUnder k a σ ≡ inputRows σ k (abstractInputs a)
+  unfolding abstractInputs
   rows-whole =
       let p = rows-length ready σ in
       let e = ap (λ (x : List Float). length x) (rows-agree v g σ k) in
@@ -227,5 +221,5 @@ module _ {s : FfState} {a : AbstractState} (v : Valid s) (g : Agrees s a) (t : T
   refresh-tracked was u =
       ⊎-elim
       (λ (e : t .exempt σ ≡ true). hit refl e)
-      (λ (e : Holds after (firstFloat σ k) (abstractFloats σ a k)). right refl k (record { last = refl; rows = refl; whole = rows-whole; holds = e }))
+      (λ (e : Holds after (firstFloat σ) (abstractFloats σ a k)). right refl k (record { last = refl; rows = refl; whole = rows-whole; holds = e }))
       (refresh-rights was)

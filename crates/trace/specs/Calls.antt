@@ -9,13 +9,13 @@ use lib.ListN.{length}
 use Rattle.codec.specs.Matrix.{matrixAt}
 use Rattle.codec.specs.Material.{materialAt}
 use Rattle.codec.specs.Light.{lightAt}
-use Rattle.ff_state.specs.Sections.{bitOf}
+use Rattle.sections.specs.Sections.{bitOf}
 use Rattle.ff_state.specs.Transforms.{slotOf, placeBits}
-use Rattle.ff_state.specs.declared.sections.Section.the-variants.{Material, Lights}
+use Rattle.sections.specs.declared.sections.Section.the-variants.{Material, Lights}
 use Rattle.ff_state.specs.declared.transforms.Slot.{Slot}
 use Rattle.ff_state.specs.declared.transforms.Slot.the-variants.{At, Unknown}
 use Rattle.sections.specs.declared.key.FfVsKey.{FfVsKey}
-use Rattle.d3d9_model.specs.Operations.{Operation, setTransform, multiplyTransform, setMaterial, setLight, enableLight, mark}
+use Rattle.d3d9_model.specs.Operations.{OperationOn, Operation, setTransform, multiplyTransform, setMaterial, setLight, enableLight, mark}
 use Rattle.calls.specs.Answer.{Answer}
 use Rattle.calls.specs.Bits.{ffMarkFfVsDirty}
 use Rattle.calls.specs.Lights.{ffSetLightAt, ffSetLightEnabledAt}
@@ -23,12 +23,8 @@ use Rattle.calls.specs.Materials.{ffSetMaterial}
 use Rattle.calls.specs.Transforms.{ffSetTransform, ffMultiplyTransform}
 
 -- the host's calls that change a state: their items cross as bytes
-pub data HostOperation : Type 0 where
-  hostSetTransform hostMultiplyTransform : ℕ → List ℕ → HostOperation
-  hostSetMaterial : List ℕ → HostOperation
-  hostSetLight : ℕ → List ℕ → HostOperation
-  hostEnableLight : ℕ → ℕ → HostOperation
-  hostMark : ℕ → HostOperation
+abbrev pub HostOperation : Type 0
+HostOperation = OperationOn (List ℕ) (List ℕ) (List ℕ) ℕ
 
 -- the slice that a refresh is lent: the mirror's, or another
 pub data Lent (A : Type 0) : Type 0 where
@@ -60,24 +56,24 @@ slice (another m) = m
 
 -- what the host's function gives: its number, and the image afterwards
 unfoldable pub hostAnswer : HostOperation → List ℕ → Answer (List ℕ)
-hostAnswer (hostSetTransform n m) image = ffSetTransform image n m
-hostAnswer (hostMultiplyTransform n m) image = ffMultiplyTransform image n m
-hostAnswer (hostSetMaterial m) image = ffSetMaterial image m
-hostAnswer (hostSetLight i l) image = ffSetLightAt image i l
-hostAnswer (hostEnableLight i on) image = ffSetLightEnabledAt image i on
-hostAnswer (hostMark bits) image = ffMarkFfVsDirty image bits
+hostAnswer (setTransform n m) image = ffSetTransform image n m
+hostAnswer (multiplyTransform n m) image = ffMultiplyTransform image n m
+hostAnswer (setMaterial m) image = ffSetMaterial image m
+hostAnswer (setLight i l) image = ffSetLightAt image i l
+hostAnswer (enableLight i on) image = ffSetLightEnabledAt image i on
+hostAnswer (mark bits) image = ffMarkFfVsDirty image bits
 
 -- the operation that its bytes say; an item of another length says none
 unfoldable pub ofLength : ℕ → List ℕ → Operation → Option Operation
 ofLength n bytes op = cond (eqb (length bytes) n) (some op) none
 
 unfoldable pub operationOf : HostOperation → Option Operation
-operationOf (hostSetTransform n m) = ofLength 64 m (setTransform n (matrixAt m 0))
-operationOf (hostMultiplyTransform n m) = ofLength 64 m (multiplyTransform n (matrixAt m 0))
-operationOf (hostSetMaterial m) = ofLength 68 m (setMaterial (materialAt m 0))
-operationOf (hostSetLight i l) = ofLength 104 l (setLight i (lightAt l 0))
-operationOf (hostEnableLight i on) = some (enableLight i (not (eqb on 0)))
-operationOf (hostMark bits) = some (mark bits)
+operationOf (setTransform n m) = ofLength 64 m (setTransform n (matrixAt m 0))
+operationOf (multiplyTransform n m) = ofLength 64 m (multiplyTransform n (matrixAt m 0))
+operationOf (setMaterial m) = ofLength 68 m (setMaterial (materialAt m 0))
+operationOf (setLight i l) = ofLength 104 l (setLight i (lightAt l 0))
+operationOf (enableLight i on) = some (enableLight i (not (eqb on 0)))
+operationOf (mark bits) = some (mark bits)
 
 -- the sections that an accepted operation marks, as bits
 unfoldable pub slotBits : Slot → ℕ

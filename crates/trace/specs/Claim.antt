@@ -7,13 +7,14 @@ use mathlib.Core.Option.{Option, none, some}
 use lib.Ieee.{Float}
 use lib.ListN.{length}
 use Rattle.codec.specs.Little.{Bytes}
-use Rattle.ff_state.specs.declared.sections.Section.{Section}
-use Rattle.ff_state.specs.declared.sections.Section.the-variants.{Wv, Proj, Material, Lights, Palette, Tt}
+use Rattle.sections.specs.declared.sections.Section.{Section}
+use Rattle.sections.specs.declared.sections.Section.the-variants.{Wv, Proj, Material, Lights, Palette, Tt}
 use Rattle.sections.specs.Key.{SameShape}
 use Rattle.sections.specs.declared.key.FfVsKey.{FfVsKey}
-use Rattle.agreement.specs.Operate as Operate
+use Rattle.ff_state.specs.Operate as Operate
 use Rattle.refresh_calls.specs.Written.{mirrorFloats}
-use Rattle.trace.specs.Calls.{HostOperation, hostSetTransform, hostMultiplyTransform, hostSetMaterial, hostSetLight, hostEnableLight, hostMark, Lent, theMirror, another, slice, HostCall, operates, refreshes, Call, own, readIn, refresh, overwrite, host, hostOn}
+use Rattle.trace.specs.Calls.{HostOperation, Lent, theMirror, another, slice, HostCall, operates, refreshes, Call, own, readIn, refresh, overwrite, host, hostOn}
+use Rattle.d3d9_model.specs.Operations.{setTransform, multiplyTransform, setMaterial, setLight, enableLight, mark}
 use Rattle.trace.specs.Calls as Calls
 use Rattle.trace.specs.World.{World, Track, start, wrongRows}
 use Rattle.trace.specs.Step.{Refresher, acceptedKey, step, run}
@@ -26,12 +27,12 @@ pub record KeyFits (k : FfVsKey) : Type 0 where
   pub count : k .«vertex_blend_count» < 256
 
 abbrev pub ItemFits : HostOperation → Type 0
-ItemFits (hostSetTransform n m) = Bytes m
-ItemFits (hostMultiplyTransform n m) = Bytes m
-ItemFits (hostSetMaterial m) = Bytes m
-ItemFits (hostSetLight i l) = (i < 0x1_0000_0000) × Bytes l
-ItemFits (hostEnableLight i on) = i < 0x1_0000_0000
-ItemFits (hostMark bits) = Unit {0}
+ItemFits (setTransform n m) = Bytes m
+ItemFits (multiplyTransform n m) = Bytes m
+ItemFits (setMaterial m) = Bytes m
+ItemFits (setLight i l) = (i < 0x1_0000_0000) × Bytes l
+ItemFits (enableLight i on) = i < 0x1_0000_0000
+ItemFits (mark bits) = Unit {0}
 
 abbrev pub HostTyped : HostCall → Type 0
 HostTyped (operates h) = ItemFits h
@@ -39,7 +40,7 @@ HostTyped (refreshes k l) = KeyFits k × Bytes (slice l)
 HostTyped Calls.HostCall.reads = Unit {0}
 
 abbrev pub Typed : Call → Type 0
-Typed (own op) = Operate.Admissible op
+Typed (own op) = Operate.OperationFits op
 Typed (readIn bytes) = Bytes bytes
 Typed (refresh k l) = KeyFits k
 Typed (overwrite r x y z t) = Unit {0}

@@ -5,10 +5,9 @@ use mathlib.Core.List.{List}
 use lib.Dec.{eqb}
 use lib.Ieee.{Float, nan, binary32, toBits, isNan}
 use lib.ListN.{length, getD}
-use Rattle.ff_state.specs.declared.sections.Section.{Section}
+use Rattle.sections.specs.declared.sections.Section.{Section}
 use Rattle.rows.specs.Rows.{floats}
-use Rattle.sections.specs.Key.{noTextures}
-use Rattle.sections.specs.Shape.{firstRow}
+use Rattle.sections.specs.Sections.{firstRow}
 use Rattle.sections.specs.declared.key.FfVsKey.{FfVsKey}
 use Rattle.d3d9_model.specs.State.{AbstractState}
 use Rattle.packing_laws.specs.Abstract.{abstractRows}
@@ -36,4 +35,4 @@ rowsUnder k a σ = length (abstractRows σ a k)
 
 unfoldable pub differing : List Float → FfVsKey → AbstractState → Section → ℕ
 differing m k a σ =
-    countBelow (λ i. rowDiffers m (firstRow σ k noTextures + i) (floats (abstractRows σ a k)) i) (rowsUnder k a σ)
+    countBelow (λ i. rowDiffers m (firstRow σ + i) (floats (abstractRows σ a k)) i) (rowsUnder k a σ)

@@ -6,7 +6,7 @@ use mathlib.Core.Option.{Option, none, some}
 use lib.Dec.{eqb}
 use lib.Ieee.{Float}
 use lib.ListN.{length}
-use Rattle.ff_state.specs.declared.sections.Section.the-variants.{Lights}
+use Rattle.sections.specs.declared.sections.Section.the-variants.{Lights}
 use Rattle.ff_state.specs.declared.state.FfState.{FfState}
 use Rattle.image.specs.Read.{readImage}
 use Rattle.image_parts.specs.Reasons.{refused}
@@ -14,7 +14,7 @@ use Rattle.sections.specs.declared.key.FfVsKey.{FfVsKey}
 use Rattle.packing.specs.Inputs.{maskAccepted}
 use Rattle.d3d9_model.specs.State.{AbstractState}
 use Rattle.image_model.specs.Abstract.{imageAbstract}
-use Rattle.agreement.specs.Operate.{operate}
+use Rattle.ff_state.specs.Operate.{operate}
 use Rattle.packing_laws.specs.Abstract.{abstractInputs}
 use Rattle.calls.specs.Answer.{Answer}
 use Rattle.refresh.specs.Mirror.{Outcome, refreshMirror}

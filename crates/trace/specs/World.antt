@@ -6,14 +6,13 @@ use mathlib.Core.Option.{Option, none, some}
 use lib.Dec.{eqb, ltb, leb}
 use lib.Ieee.{Float}
 use lib.ListN.{set}
-use Rattle.ff_state.specs.Sections.{hasSection}
+use Rattle.sections.specs.Sections.{hasSection}
 use Rattle.ff_state.specs.State.{freshState}
-use Rattle.ff_state.specs.declared.sections.Section.{Section}
+use Rattle.sections.specs.declared.sections.Section.{Section}
 use Rattle.ff_state.specs.declared.state.FfState.{FfState}
 use Rattle.image.specs.Format.{imageBytes}
 use Rattle.image.specs.Read.{readImage}
-use Rattle.sections.specs.Key.{noTextures}
-use Rattle.sections.specs.Shape.{firstRow}
+use Rattle.sections.specs.Sections.{firstRow}
 use Rattle.sections.specs.declared.key.FfVsKey.{FfVsKey}
 use Rattle.d3d9_model.specs.State.{AbstractState, freshAbstract}
 use Rattle.d3d9_model.specs.Operations.{Operation, abstractRefusal, abstractStep}
@@ -97,9 +96,9 @@ unfoldable pub trackRefreshed : FfVsKey → (Section → ℕ) → Track → Trac
 trackRefreshed k rows t =
     record { mirror = t .mirror; lastKey = some k; rowsAtLastRefresh = rows; exempt = t .exempt; marked = λ σ. false; needsMarking = λ σ. false }
 
--- row r is one of the n rows of a section; where it begins is the same under every key
-unfoldable pub isRow : ℕ → Section → FfVsKey → ℕ → Bool
-isRow r σ k n = leb (firstRow σ k noTextures) r && ltb r (firstRow σ k noTextures + n)
+-- row r is one of the n rows of a section
+unfoldable pub isRow : ℕ → Section → ℕ → Bool
+isRow r σ n = leb (firstRow σ) r && ltb r (firstRow σ + n)
 
 -- "An overwriting hits a section if it writes a row that the section had at the last accepted refresh; before the first it hits none."
 unfoldable pub hits : ℕ → Track → Section → Bool
@@ -107,7 +106,7 @@ hits r t σ = hitsUnder (t .lastKey)
   where
     hitsUnder : Option FfVsKey → Bool
     hitsUnder none = false
-    hitsUnder (some k) = isRow r σ k (t .rowsAtLastRefresh σ)
+    hitsUnder (some k) = isRow r σ (t .rowsAtLastRefresh σ)
 
 unfoldable pub rowSet : ℕ → Float → Float → Float → Float → List Float → List Float
 rowSet r x y z t m = set (set (set (set m (4 * r) x) (4 * r + 1) y) (4 * r + 2) z) (4 * r + 3) t

@@ -2,7 +2,9 @@
 
 use std::fmt;
 
-use crate::damage::Damage;
+use crate::damage::{Damage, Patch, tell};
+use crate::key::Key;
+use crate::section::{MIRROR, ROW, Section};
 
 pub const MATRIX: usize = 64;
 pub const MATERIAL: usize = 68;
@@ -15,6 +17,14 @@ pub enum Gives {
     Number,
     /// An item of so many bytes, in a lent slice.
     Item(usize),
+    /// The rows of the draw that the key tells: their number.
+    RowCount,
+    /// The rows of a section under the key: their number.
+    Rows(Section),
+    /// The rows of a section under the key, in a lent slice.
+    Fill(Section),
+    /// The bits taken, and their sections' rows under the key, in a lent mirror.
+    Mirror,
 }
 
 /// A call's form.
@@ -74,64 +84,160 @@ calls! {
     CompactedLightMasks, "ff_compacted_light_masks", [9], None, Gives::Number, false;
     MarkFfVsDirty, "ff_mark_ff_vs_dirty", [9, 7], None, Gives::Nothing, true;
     TakeFfVsDirty, "ff_take_ff_vs_dirty", [9], None, Gives::Number, true;
+    RowCount, "ff_vs_row_count", [9], None, Gives::RowCount, false;
+    WvRows, "ff_wv_section_rows", [9], None, Gives::Rows(Section::Wv), false;
+    ProjRows, "ff_proj_section_rows", [9], None, Gives::Rows(Section::Proj), false;
+    MaterialRows, "ff_material_section_rows", [9], None, Gives::Rows(Section::Material), false;
+    LightsRows, "ff_lights_section_rows", [9], None, Gives::Rows(Section::Lights), false;
+    PaletteRows, "ff_palette_section_rows", [9], None, Gives::Rows(Section::Palette), false;
+    TtRows, "ff_tt_section_rows", [9], None, Gives::Rows(Section::Tt), false;
+    FillWv, "ff_fill_wv_section", [9, 4], None, Gives::Fill(Section::Wv), false;
+    FillProj, "ff_fill_proj_section", [9, 4], None, Gives::Fill(Section::Proj), false;
+    FillMaterial, "ff_fill_material_section", [9, 4], None, Gives::Fill(Section::Material), false;
+    FillLights, "ff_fill_lights_section", [9, 4, 5], None, Gives::Fill(Section::Lights), false;
+    FillPalette, "ff_fill_palette_section", [9, 4], None, Gives::Fill(Section::Palette), false;
+    FillTt, "ff_fill_tt_section", [9, 4], None, Gives::Fill(Section::Tt), false;
+    Refresh, "ff_refresh", [9, 4, 8, 5], None, Gives::Mirror, true;
 }
 
-/// A call on the running image, or on that image damaged.
+impl Name {
+    /// Whether it gives rows, or their number, and leaves everything else alone.
+    #[must_use]
+    pub const fn packs(self) -> bool {
+        matches!(
+            self.form().gives,
+            Gives::RowCount | Gives::Rows(_) | Gives::Fill(_)
+        )
+    }
+
+    #[must_use]
+    pub const fn takes_key(self) -> bool {
+        self.packs() || matches!(self, Self::Refresh)
+    }
+
+    /// Whether it takes a state, an index or bits.
+    #[must_use]
+    pub const fn takes_number(self) -> bool {
+        matches!(
+            self,
+            Self::SetTransform
+                | Self::MultiplyTransform
+                | Self::Transform
+                | Self::SetLightAt
+                | Self::SetLightEnabledAt
+                | Self::GetLightAt
+                | Self::IsLightEnabledAt
+                | Self::IsLightDefinedAt
+                | Self::MarkFfVsDirty
+        )
+    }
+}
+
+/// The length of the lent slice.
+#[derive(Clone, Copy, Debug, PartialEq, Eq)]
+pub enum Length {
+    /// What document 01 wants of it.
+    Right,
+    Bytes(usize),
+}
+
+/// A call on the running image, or on that image damaged; a refresh of the running mirror.
 #[derive(Clone, Debug, PartialEq, Eq)]
 pub struct Call {
     pub name: Name,
     pub damage: Option<Damage>,
+    /// What is put over the running mirror before the call.
+    pub overwrite: Vec<Patch>,
     /// The state, the index or the bits; 0 where the call has none of them.
     pub number: u32,
     /// `enabled` of ff_set_light_enabled_at.
     pub enabled: u32,
     /// The bytes of the item, of any length.
     pub given: Vec<u8>,
-    /// The length of the lent slice.
-    pub lent: usize,
+    pub key: Key,
+    /// Where it is there, the key's mask is the state's own active mask, whatever that is, without these bits.
+    pub own_mask: Option<u8>,
+    pub lent: Length,
 }
 
 impl Call {
-    /// The call with no damage, numbers 0, an item of zeros and a lent slice of the right length.
+    /// The call with no damage, numbers 0, an item of zeros, a key of zeros and a lent slice of the right length.
     #[must_use]
     pub fn plain(name: Name) -> Self {
-        let form = name.form();
         Self {
             name,
             damage: None,
+            overwrite: Vec::new(),
             number: 0,
             enabled: 0,
-            given: vec![0; form.takes.unwrap_or(0)],
-            lent: match form.gives {
-                Gives::Item(bytes) => bytes,
-                Gives::Nothing | Gives::Number => 0,
-            },
+            given: vec![0; name.form().takes.unwrap_or(0)],
+            key: Key::default(),
+            own_mask: None,
+            lent: Length::Right,
         }
     }
 
     #[must_use]
-    pub fn takes_number(&self) -> bool {
-        matches!(
-            self.name,
-            Name::SetTransform
-                | Name::MultiplyTransform
-                | Name::Transform
-                | Name::SetLightAt
-                | Name::SetLightEnabledAt
-                | Name::GetLightAt
-                | Name::IsLightEnabledAt
-                | Name::IsLightDefinedAt
-                | Name::MarkFfVsDirty
-        )
+    pub fn numbered(name: Name, number: u32) -> Self {
+        Self {
+            number,
+            ..Self::plain(name)
+        }
+    }
+
+    #[must_use]
+    pub fn keyed(name: Name, key: Key) -> Self {
+        Self {
+            key,
+            ..Self::plain(name)
+        }
+    }
+
+    /// The bytes of the right slice; 0 where the call is lent none.
+    #[must_use]
+    pub const fn right_length(&self) -> usize {
+        match self.name.form().gives {
+            Gives::Nothing | Gives::Number | Gives::RowCount | Gives::Rows(_) => 0,
+            Gives::Item(bytes) => bytes,
+            Gives::Fill(section) => ROW * section.rows(self.key) as usize,
+            Gives::Mirror => MIRROR,
+        }
+    }
+
+    /// The bytes of the lent slice.
+    #[must_use]
+    pub const fn lent_length(&self) -> usize {
+        match (self.name.form().gives, self.lent) {
+            (Gives::Item(_) | Gives::Fill(_) | Gives::Mirror, Length::Bytes(bytes)) => bytes,
+            _ => self.right_length(),
+        }
+    }
+
+    /// Whether the item or the lent slice has another length than document 01 wants.
+    #[must_use]
+    pub fn has_wrong_length(&self) -> bool {
+        self.lent_length() != self.right_length()
+            || self.given.len() != self.name.form().takes.unwrap_or(0)
+    }
+
+    /// Whether the running mirror is what the call is lent.
+    #[must_use]
+    pub fn lends_mirror(&self) -> bool {
+        self.name == Name::Refresh && !self.has_wrong_length()
     }
 }
 
-/// As in the stored list: oracle/README.md.
+/// What was overwritten and damaged before the call, a line each; then the call, its numbers, its item, the key's
+/// seven fields, where `own` is the state's own mask, and the length of the lent slice where it is not the right one.
 impl fmt::Display for Call {
     fn fmt(&self, f: &mut fmt::Formatter<'_>) -> fmt::Result {
+        tell(f, "overwrite", &self.overwrite)?;
+        if let Some(damage) = &self.damage {
+            write!(f, "{damage}")?;
+        }
         let form = self.name.form();
         write!(f, "{}", form.c_name)?;
-        if self.takes_number() {
+        if self.name.takes_number() {
             write!(f, " {:08x}", self.number)?;
         }
         if self.name == Name::SetLightEnabledAt {
@@ -143,9 +249,20 @@ impl fmt::Display for Call {
                 write!(f, "{byte:02x}")?;
             }
         }
-        if matches!(form.gives, Gives::Item(_)) {
-            write!(f, " {:08x}", self.lent)?;
+        if self.name.takes_key() {
+            let [rhw, lit, specular, indexed, mask, fog, count] = self.key.fields();
+            let mask = match self.own_mask {
+                None => mask.to_string(),
+                Some(0) => "own".to_string(),
+                Some(without) => format!("own-without-{without}"),
+            };
+            write!(f, " {rhw} {lit} {specular} {indexed} {mask} {fog} {count}")?;
         }
-        Ok(())
+        match (form.gives, self.lent) {
+            (Gives::Item(_) | Gives::Fill(_) | Gives::Mirror, Length::Bytes(bytes)) => {
+                write!(f, " {bytes} bytes")
+            }
+            _ => Ok(()),
+        }
     }
 }

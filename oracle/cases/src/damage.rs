@@ -1,14 +1,17 @@
-//! Bytes of an image put in place of others: what makes it no image, or another one.
+//! Bytes put in place of others: what makes an image none, or another one; what overwrites a mirror.
 
 use std::fmt;
 
 /// What a byte past the old end holds where an image grows.
 const GROWN: u8 = 0;
 
+/// Where bytes go, and the bytes; what falls past the end is dropped.
+pub type Patch = (usize, Vec<u8>);
+
 #[derive(Clone, Debug, Default, PartialEq, Eq)]
 pub struct Damage {
-    /// Bytes and where they go, in order; what falls past the end is dropped.
-    pub patches: Vec<(usize, Vec<u8>)>,
+    /// In order.
+    pub patches: Vec<Patch>,
     /// The length afterwards, where it is another.
     pub length: Option<usize>,
 }
@@ -42,26 +45,37 @@ impl Damage {
     }
 
     pub fn apply(&self, image: &mut Vec<u8>) {
-        for (at, bytes) in &self.patches {
-            for (place, byte) in image.iter_mut().skip(*at).zip(bytes) {
-                *place = *byte;
-            }
-        }
+        patch(&self.patches, image);
         if let Some(length) = self.length {
             image.resize(length, GROWN);
         }
     }
 }
 
+pub fn patch(patches: &[Patch], bytes: &mut [u8]) {
+    for (at, put) in patches {
+        let room = bytes.len().saturating_sub(*at).min(put.len());
+        if room != 0 {
+            bytes[*at..*at + room].copy_from_slice(&put[..room]);
+        }
+    }
+}
+
+/// A line for each patch.
+pub(crate) fn tell(f: &mut fmt::Formatter<'_>, what: &str, patches: &[Patch]) -> fmt::Result {
+    for (at, bytes) in patches {
+        write!(f, "{what} {at:08x} ")?;
+        for byte in bytes {
+            write!(f, "{byte:02x}")?;
+        }
+        writeln!(f)?;
+    }
+    Ok(())
+}
+
 impl fmt::Display for Damage {
     fn fmt(&self, f: &mut fmt::Formatter<'_>) -> fmt::Result {
-        for (at, bytes) in &self.patches {
-            write!(f, "patch {at:08x} ")?;
-            for byte in bytes {
-                write!(f, "{byte:02x}")?;
-            }
-            writeln!(f)?;
-        }
+        tell(f, "patch", &self.patches)?;
         if let Some(length) = self.length {
             writeln!(f, "length {length:08x}")?;
         }

@@ -1,8 +1,21 @@
 //! Lists of calls that are the same for every seed: each border in turn.
 
-use crate::call::{Call, Gives, LIGHT, NAMES, Name};
-use crate::damage::Damage;
+mod again;
+mod packs;
+mod refreshes;
+mod states;
+mod words;
+
+use crate::call::{Call, Gives, Length, NAMES, Name};
+use crate::damage::{Damage, Patch};
 use crate::image::{self, BYTES, REGIONS, ROOM, SLOTS};
+use crate::key::Key;
+use crate::section::MIRROR;
+use crate::states::{directed, enable};
+use crate::world::World;
+
+pub use packs::lists as packs;
+pub use states::kinds_of_lights;
 
 /// How far past its item's length a slice goes.
 const PAST: usize = 40;
@@ -10,42 +23,28 @@ const PAST: usize = 40;
 const WRAPS: [usize; 2] = [256, 65_536];
 const WORLD: u32 = 256;
 
+/// One in `step` of the damaged words, and everything else.
 #[must_use]
-pub fn edges() -> Vec<Vec<Call>> {
+pub fn edges(step: usize) -> Vec<Vec<Call>> {
     let mut lists = vec![
         states(),
         bits(),
         full_table((0..=ROOM as u32).map(|i| 8 + i).collect()),
         full_table((0..=ROOM as u32).rev().map(|i| u32::MAX - 5 * i).collect()),
+        again::list(),
     ];
+    lists.extend(refreshes::lists());
     for &name in NAMES {
         lists.push(lengths(name));
         lists.push(images(name));
         lists.push(reasons(name));
     }
+    lists.extend(words::lists(step));
     lists
 }
 
-fn light(type_: u32) -> Vec<u8> {
-    let mut bytes = vec![0; LIGHT];
-    bytes[..4].copy_from_slice(&type_.to_le_bytes());
-    bytes
-}
-
 fn set_light(index: u32, type_: u32) -> Call {
-    Call {
-        number: index,
-        given: light(type_),
-        ..Call::plain(Name::SetLightAt)
-    }
-}
-
-fn enable(index: u32, enabled: u32) -> Call {
-    Call {
-        number: index,
-        enabled,
-        ..Call::plain(Name::SetLightEnabledAt)
-    }
+    crate::states::set_light(index, &directed(type_, [0; 3]))
 }
 
 /// Lights in slots 0 and 7 and two from index 8 on, and no bits: every region of the image has
@@ -60,39 +59,59 @@ fn some_lights() -> Vec<Call> {
     ]
 }
 
-/// The call with arguments that are accepted after `some_lights`.
+/// The call with arguments that are accepted after `some_lights`, which lights two.
 fn accepted(name: Name) -> Call {
     let number = match name {
         Name::SetTransform | Name::MultiplyTransform | Name::Transform => WORLD,
         Name::GetLightAt => 7,
         _ => 0,
     };
-    Call {
-        number,
-        ..Call::plain(name)
+    let mut call = Call::numbered(name, number);
+    if name.takes_key() {
+        call.key = Key::of([0, 1, 1, 0, 3, 0, 2]);
+        call.own_mask = Some(0);
     }
+    call
 }
 
-/// Every length of the call's slice up to past the item's.
+/// Every length of the call's slice up to past the item's; of a mirror those about 0 and its own.
 fn lengths(name: Name) -> Vec<Call> {
     let form = name.form();
     let call = accepted(name);
     let mut calls = some_lights();
-    let item = match form.gives {
-        Gives::Item(bytes) => Some(bytes),
-        Gives::Nothing | Gives::Number => form.takes,
+    let right = match form.gives {
+        Gives::Item(_) | Gives::Fill(_) | Gives::Mirror => call.right_length(),
+        _ => match form.takes {
+            Some(bytes) => bytes,
+            None => return calls,
+        },
     };
-    let Some(right) = item else {
-        return calls;
-    };
-    for length in (0..=right + PAST).chain(WRAPS.map(|wrap| right + wrap)) {
+    let around = (0..=right + PAST).chain(WRAPS.map(|wrap| right + wrap));
+    let tried =
+        around.filter(|&length| right != MIRROR || length <= PAST || length + PAST >= right);
+    for length in tried {
         let mut call = call.clone();
         if form.takes.is_some() {
             call.given.resize(length, 0);
         } else {
-            call.lent = length;
+            call.lent = Length::Bytes(length);
         }
         calls.push(call);
+    }
+    calls
+}
+
+/// The call on an image with each patch in turn. Each damage puts back what the last one may have left, where that was
+/// read in.
+fn patched(image: &[u8], call: &Call, patches: impl IntoIterator<Item = Patch>) -> Vec<Call> {
+    let mut back = Damage::default();
+    let mut calls = Vec::new();
+    for (at, bytes) in patches {
+        calls.push(Call {
+            damage: Some(back.and(Damage::bytes(at, &bytes))),
+            ..call.clone()
+        });
+        back = Damage::bytes(at, &image[at..at + bytes.len()]);
     }
     calls
 }
@@ -100,26 +119,20 @@ fn lengths(name: Name) -> Vec<Call> {
 /// Images of other lengths, and each region's first and last byte damaged.
 fn images(name: Name) -> Vec<Call> {
     let around = [0, 1, BYTES - 4, BYTES - 1, BYTES + 1, BYTES + 4, 2 * BYTES];
-    let lengths = around
-        .into_iter()
-        .chain(WRAPS.map(|wrap| BYTES + wrap))
-        .map(Damage::length);
+    let lengths = around.into_iter().chain(WRAPS.map(|wrap| BYTES + wrap));
     let ends = (1..=REGIONS.len()).map(|next| REGIONS.get(next).map_or(BYTES, |region| region.0));
     let bytes = REGIONS
         .iter()
         .zip(ends)
         .flat_map(|(&(start, _), end)| [start, end - 1])
-        .flat_map(|at| [0, 1, 0x80, 0xFF].map(|byte| Damage::bytes(at, &[byte])));
+        .flat_map(|at| [0, 1, 0x80, 0xFF].map(|byte| (at, vec![byte])));
     let mut calls = some_lights();
-    for damage in lengths.chain(bytes) {
-        calls.push(Call {
-            damage: Some(damage),
-            ..accepted(name)
-        });
-        // A damaged image that was read in makes way for the first one.
-        calls.push(Call::plain(Name::ImageFresh));
-        calls.extend(some_lights());
-    }
+    let image = World::after(&calls);
+    calls.extend(lengths.map(|length| Call {
+        damage: Some(Damage::length(length)),
+        ..accepted(name)
+    }));
+    calls.extend(patched(image.image(), &accepted(name), bytes));
     calls
 }
 
@@ -171,13 +184,9 @@ fn states() -> Vec<Call> {
         Name::WorldPaletteUsed,
     ];
     let calls = (0..600).flat_map(|number| {
-        names.map(|name| Call {
-            number: if name == Name::WorldPaletteUsed {
-                0
-            } else {
-                number
-            },
-            ..Call::plain(name)
+        names.map(|name| {
+            let number = if name.takes_number() { number } else { 0 };
+            Call::numbered(name, number)
         })
     });
     calls.collect()
@@ -186,10 +195,7 @@ fn states() -> Vec<Call> {
 /// Every number of up to nine bits is marked and taken.
 fn bits() -> Vec<Call> {
     let calls = (0..512).flat_map(|number| {
-        let mark = Call {
-            number,
-            ..Call::plain(Name::MarkFfVsDirty)
-        };
+        let mark = Call::numbered(Name::MarkFfVsDirty, number);
         [mark, Call::plain(Name::TakeFfVsDirty)]
     });
     calls.collect()

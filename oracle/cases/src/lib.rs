@@ -2,19 +2,22 @@
 //! that a stored list of answers can be written without it.
 
 pub mod answers;
+pub mod book;
 pub mod call;
+pub mod claim;
 pub mod damage;
 pub mod edges;
 pub mod floats;
 pub mod image;
+pub mod key;
+mod keys;
+pub mod lengths;
 pub mod lists;
 pub mod matrices;
 pub mod model;
-pub mod pack_edges;
-pub mod pack_lists;
-pub mod packed;
-pub mod packing;
+pub mod packs;
 pub mod random;
 pub mod records;
+pub mod section;
 pub mod states;
 pub mod world;

@@ -1,60 +1,29 @@
 //! Lists of calls, made from a seed.
 
 mod damages;
+mod draws;
+mod values;
 
-use crate::call::{Call, Gives, LIGHT, MATERIAL, MATRIX, NAMES, Name};
+use crate::call::{Call, Gives, Length, MATERIAL, NAMES, Name};
 use crate::damage::Damage;
-use crate::floats::SPECIAL;
-use crate::image::{ROOM, SLOTS};
-use crate::matrices::{self, KINDS};
+use crate::image::ROOM;
+use crate::key::Key;
+use crate::lengths::wrong_length;
 use crate::random::Random;
 
 /// Calls of a list.
 pub const LENGTH: usize = 100;
+/// How many of the last changes may be made again.
+const MEMORY: usize = 6;
 
-/// Borders of the transform states, and numbers that are known once they are cut to 8 or 16 bits.
-const STATES: [u32; 28] = [
-    0,
-    1,
-    2,
-    3,
-    4,
-    15,
-    16,
-    17,
-    22,
-    23,
-    24,
-    255,
-    256,
-    257,
-    295,
-    296,
-    510,
-    511,
-    512,
-    513,
-    0x0001_0002,
-    0x0001_0100,
-    0x0100_0003,
-    0x8000_0002,
-    0x8000_0100,
-    0xFFFF_FFFF,
-    0xFFFF_FF02,
-    768,
+const CHANGES: [Name; 5] = [
+    Name::SetTransform,
+    Name::MultiplyTransform,
+    Name::SetMaterial,
+    Name::SetLightAt,
+    Name::SetLightEnabledAt,
 ];
-const NUMBERS: [u32; 10] = [
-    0,
-    1,
-    2,
-    3,
-    255,
-    256,
-    65_536,
-    0x7FFF_FFFF,
-    0x8000_0000,
-    0xFFFF_FFFF,
-];
+
 /// What the calls of one list have in common.
 struct List<'a> {
     random: &'a mut Random,
@@ -64,6 +33,33 @@ struct List<'a> {
     lit: usize,
     /// One call in so many is given a damaged image.
     damage: u32,
+    /// The last changes, the last of all at the end.
+    changes: Vec<Call>,
+    /// The key of the refreshes, and whether its mask is the state's own, without some bits.
+    key: Key,
+    own_mask: Option<u8>,
+    /// Whether the list keeps to demand 3's conditions mostly: no takes, and marks where they are owed.
+    keeps: bool,
+    /// The sections to be marked before the next refresh.
+    owed: u8,
+}
+
+impl<'a> List<'a> {
+    fn new(random: &'a mut Random, pool: Vec<u32>) -> Self {
+        let mut list = Self {
+            random,
+            pool,
+            lit: 0,
+            damage: 1,
+            changes: Vec::new(),
+            key: Key::default(),
+            own_mask: None,
+            keeps: true,
+            owed: 0,
+        };
+        list.change_key();
+        list
+    }
 }
 
 /// The list with this number.
@@ -79,26 +75,25 @@ pub fn list(seed: u64, number: u64) -> Vec<Call> {
         }
     }
     let lit = random.pick(&[0, 0, size]);
-    let damage = random.pick(&[3, 8, 30]);
+    let damage = random.pick(&[3, 8, 30, 100]);
+    let keeps = !random.chance(3);
+    let list = List::new(&mut random, pool);
     let mut list = List {
-        random: &mut random,
-        pool,
         lit,
         damage,
+        keeps,
+        owed: 0,
+        ..list
     };
-    (0..LENGTH).map(|at| list.call(at)).collect()
+    let mut calls: Vec<Call> = (0..LENGTH).map(|at| list.call(at)).collect();
+    calls[0].overwrite = list.whole_mirror();
+    calls
 }
 
 /// A damage by itself, for a state with few lights from index 8 on.
 #[must_use]
 pub fn damage(random: &mut Random) -> Damage {
-    List {
-        random,
-        pool: vec![8, 9, 70],
-        lit: 0,
-        damage: 1,
-    }
-    .damage()
+    List::new(random, vec![8, 9, 70]).damage()
 }
 
 fn overflow_index(random: &mut Random) -> u32 {
@@ -112,36 +107,21 @@ fn overflow_index(random: &mut Random) -> u32 {
 
 impl List<'_> {
     fn call(&mut self, at: usize) -> Call {
-        let name = self.name(at);
-        let mut call = Call::plain(name);
-        call.number = match name {
-            Name::SetTransform | Name::MultiplyTransform | Name::Transform => self.state(),
-            Name::MarkFfVsDirty => self.bits(),
-            _ if at < self.lit => self.pool[at],
-            _ => self.index(),
+        let begun = at >= self.lit;
+        let mut call = match begun.then(|| self.again()).flatten() {
+            Some(call) => call,
+            None => {
+                let name = self.name(at);
+                self.named(name, at)
+            }
         };
-        if !call.takes_number() {
-            call.number = 0;
+        self.remember(&call);
+        if self.random.chance(10) {
+            call.overwrite = self.overwriting();
         }
-        if name == Name::SetLightEnabledAt {
-            call.enabled = self.number();
-        }
-        call.given = match name {
-            Name::SetTransform | Name::MultiplyTransform => self.matrix(),
-            Name::SetMaterial => self.floats(MATERIAL),
-            Name::SetLightAt => self.light(),
-            _ => Vec::new(),
-        };
-        let form = name.form();
-        if let Some(bytes) = form.takes {
-            let length = self.length(bytes);
-            call.given.resize(length, 0);
-        }
-        if let Gives::Item(bytes) = form.gives {
-            call.lent = self.length(bytes);
-        }
-        if at >= self.lit && self.random.chance(self.damage) {
+        if begun && self.random.chance(self.damage) {
             call.damage = Some(self.damage());
+            self.owe();
         }
         call
     }
@@ -153,132 +133,98 @@ impl List<'_> {
                 .random
                 .pick(&[Name::SetLightAt, Name::SetLightEnabledAt]);
         }
-        match self.random.pick(NAMES) {
-            Name::ImageFresh if !self.random.chance(8) => Name::SetLightAt,
-            Name::TakeFfVsDirty if self.random.chance(2) => Name::SetTransform,
-            name => name,
+        match self.random.below(16) {
+            0..5 => self.random.pick(&CHANGES),
+            5..9 => Name::Refresh,
+            9 => Name::MarkFfVsDirty,
+            10 if !self.keeps => Name::TakeFfVsDirty,
+            _ => match self.random.pick(NAMES) {
+                Name::ImageFresh if !self.random.chance(4) => Name::SetLightAt,
+                Name::TakeFfVsDirty if self.keeps => Name::Refresh,
+                name => name,
+            },
         }
     }
 
-    fn state(&mut self) -> u32 {
-        match self.random.below(8) {
-            0..3 => self.random.pick(&STATES),
-            3 => self.random.word(),
-            4 => self.random.pick(&[2, 3]),
-            5 => 16 + self.random.below(8),
-            _ => 256 + self.random.below(256),
+    fn named(&mut self, name: Name, at: usize) -> Call {
+        if name == Name::Refresh {
+            return match self.marking() {
+                Some(mark) => mark,
+                None => self.refresh(),
+            };
         }
-    }
-
-    fn index(&mut self) -> u32 {
-        match self.random.below(8) {
-            0..3 => self.random.below(SLOTS as u32),
-            3 => self.random.below(12),
-            4 if self.random.chance(4) => self.random.word(),
-            _ => {
-                let at = self.random.below(self.pool.len() as u32);
-                self.pool[at as usize]
-            }
+        let mut call = Call::plain(name);
+        if name.takes_key() {
+            self.put_key(&mut call);
         }
-    }
-
-    fn bits(&mut self) -> u32 {
-        match self.random.below(8) {
-            0 => self.random.pick(&NUMBERS),
-            1 => 1 << self.random.below(32),
-            2 => self
-                .random
-                .pick(&[62, 63, 64, 65, 127, 128, 319, 0x8000_0003]),
-            3 => self.random.word(),
-            _ => self.random.below(64),
+        if name.takes_number() {
+            call.number = match name {
+                Name::SetTransform | Name::MultiplyTransform | Name::Transform => self.state(),
+                Name::MarkFfVsDirty => self.bits(),
+                _ if at < self.lit => self.pool[at],
+                _ => self.index(),
+            };
         }
-    }
-
-    fn number(&mut self) -> u32 {
-        if self.random.chance(2) {
-            self.random.below(2)
-        } else if self.random.chance(8) {
-            self.random.word()
-        } else {
-            self.random.pick(&NUMBERS)
+        if name == Name::SetLightEnabledAt {
+            call.enabled = self.number();
         }
-    }
-
-    /// The right length mostly; else one around it, another item's, a large one or any.
-    fn length(&mut self, right: usize) -> usize {
-        if !self.random.chance(6) {
-            return right;
-        }
-        let wrong = [
-            0,
-            1,
-            right - 4,
-            right - 1,
-            right + 1,
-            right + 4,
-            2 * right,
-            right + 256,
-            right + 65_536,
-            MATRIX,
-            MATERIAL,
-            LIGHT,
-        ];
-        if self.random.chance(8) {
-            self.random.below(200) as usize
-        } else {
-            self.random.pick(&wrong)
-        }
-    }
-
-    fn float(&mut self) -> u32 {
-        match self.random.below(8) {
-            0..3 => self.random.pick(&SPECIAL),
-            3 => self.nan(),
-            4 => self.random.word(),
-            _ => (self.random.between(-9, 9) as f32 * 0.5).to_bits(),
-        }
-    }
-
-    /// A NaN of any pattern: quiet or signalling, of either sign, with any payload.
-    fn nan(&mut self) -> u32 {
-        let payload = match self.random.below(3) {
-            0 => 1 << self.random.below(23),
-            1 => 0x0040_0000 | self.random.below(4),
-            _ => (self.random.word() & 0x007F_FFFF).max(1),
+        call.given = match name {
+            Name::SetTransform | Name::MultiplyTransform => self.matrix(),
+            Name::SetMaterial => self.floats(MATERIAL),
+            Name::SetLightAt => self.light(),
+            _ => Vec::new(),
         };
-        0x7F80_0000 | (self.random.word() & 0x8000_0000) | payload
+        self.mislay_lengths(&mut call);
+        call
     }
 
-    fn floats(&mut self, bytes: usize) -> Vec<u8> {
-        (0..bytes / 4)
-            .flat_map(|_| self.float().to_le_bytes())
-            .collect()
-    }
-
-    fn matrix(&mut self) -> Vec<u8> {
-        if self.random.chance(2) {
-            return self.floats(MATRIX);
+    /// The right length mostly.
+    fn mislay_lengths(&mut self, call: &mut Call) {
+        let form = call.name.form();
+        if let Some(bytes) = form.takes
+            && self.random.chance(6)
+        {
+            call.given.resize(wrong_length(self.random, bytes), 0);
         }
-        let kind = self.random.pick(&KINDS);
-        matrices::matrix(kind, self.random)
-            .iter()
-            .flat_map(|word| word.to_le_bytes())
-            .collect()
-    }
-
-    fn light_type(&mut self) -> u32 {
-        match self.random.below(12) {
-            0 => self.random.pick(&[257, 258, 259, 0x8000_0001, 0x0001_0003]),
-            1 => self.nan(),
-            2 => self.random.word(),
-            3 => self.random.below(6),
-            _ => 1 + self.random.below(3),
+        if matches!(form.gives, Gives::Item(_) | Gives::Fill(_) | Gives::Mirror)
+            && self.random.chance(8)
+        {
+            call.lent = Length::Bytes(wrong_length(self.random, call.right_length()));
         }
     }
 
-    fn light(&mut self) -> Vec<u8> {
-        let mut light = self.floats(LIGHT);
-        light[..4].copy_from_slice(&self.light_type().to_le_bytes());
-        light
+    fn remember(&mut self, call: &Call) {
+        let sets = CHANGES.contains(&call.name) && call.name != Name::MultiplyTransform;
+        if sets && !call.has_wrong_length() {
+            if self.changes.len() == MEMORY {
+                self.changes.remove(0);
+            }
+            self.changes.push(call.clone());
+        }
+        // What is lit may change, and the state's own mask with it.
+        if matches!(call.name, Name::SetLightAt | Name::SetLightEnabledAt) && self.random.chance(2)
+        {
+            self.owe();
+        }
+    }
+
+    /// One of the last changes once more, the last of all mostly: what is stored is set again.
+    fn again(&mut self) -> Option<Call> {
+        if self.changes.is_empty() || !self.random.chance(8) {
+            return None;
+        }
+        let last = self.changes.len() - 1;
+        let at = if self.random.chance(2) {
+            self.random.below(last as u32 + 1) as usize
+        } else {
+            last
+        };
+        let call = &self.changes[at];
+        Some(Call {
+            number: call.number,
+            enabled: call.enabled,
+            given: call.given.clone(),
+            ..Call::plain(call.name)
+        })
     }
 }

@@ -1,18 +1,19 @@
-//! Document 01's host over the unchanged Rust: the Rust's state gives every answer and every field
-//! of the image; what document 01 adds is written here: the refusals, the 56 entries, the image.
+//! Document 01's host over the unchanged Rust: the Rust's state gives every answer, every row and every field
+//! of the image; what document 01 adds is written here: the refusals, the 56 entries, the image, the refresh.
+
+mod imaged;
 
 use std::collections::BTreeSet;
 
-use mtld3d_types::{
-    D3DLIGHT9, D3DMATRIX, D3DRS_LIGHTING, D3DTS_TEXTURE0, D3DTS_WORLD, RENDER_STATE_COUNT,
-};
+use mtld3d_types::{D3DLIGHT9, D3DMATRIX, D3DRS_LIGHTING, RENDER_STATE_COUNT};
 use original::convert::{FfVsLayout, FfVsLayoutFlags};
 use original::dxso::MAX_LINKED_INPUTS;
 use original::ff_state::{FfState, FfVsDirty};
 
 use crate::call::{Call, Gives, LIGHT, MATERIAL, MATRIX, Name};
-use crate::image::{self, BYTES, MATRICES, ROOM, SLOTS, TEXTURES};
+use crate::image::{self, ROOM, SLOTS};
 use crate::records;
+use crate::section::FIVE;
 
 /// Document 01's numbers of the refusals.
 pub mod refusal {
@@ -22,6 +23,7 @@ pub mod refusal {
     pub const WRONG_LENGTH: u32 = 4;
     pub const WRONG_MASK: u32 = 5;
     pub const UNKNOWN_BITS: u32 = 7;
+    pub const TRANSFORMED: u32 = 8;
     pub const NO_IMAGE: u32 = 9;
 }
 
@@ -40,13 +42,15 @@ pub enum Output {
     Nothing,
     Number(u32),
     Bytes(Vec<u8>),
+    /// The bits taken, and the whole mirror afterwards.
+    Refreshed(u32, Vec<u8>),
 }
 
 /// What an accepted call gives, or the number of its refusal.
 pub type Answer = Result<Output, u32>;
 
 pub struct Model {
-    pub(crate) rust: FfState,
+    rust: FfState,
     /// The stored light indices of 8 or more.
     overflow: BTreeSet<u32>,
     /// The highest palette index where an image brought one below the Rust's, which only rises.
@@ -66,54 +70,6 @@ impl Model {
             rust: FfState::new(),
             overflow: BTreeSet::new(),
             lowered: None,
-        }
-    }
-
-    /// The state that an image reads as; the image has no reason to be refused.
-    #[must_use]
-    pub fn read(bytes: &[u8]) -> Self {
-        let mut model = Self::fresh();
-        let palette = D3DTS_WORLD..D3DTS_WORLD + MATRICES as u32;
-        let textures = D3DTS_TEXTURE0..D3DTS_TEXTURE0 + TEXTURES as u32;
-        for state in [2, 3].into_iter().chain(textures).chain(palette) {
-            let at = image::place(state).expect("a known state");
-            let m = records::matrix(&bytes[at..]);
-            // A matrix that is set raises the Rust's highest index, so identities are left alone.
-            if m.m.map(f32::to_bits) != D3DMATRIX::IDENTITY.m.map(f32::to_bits) {
-                model.rust.set_transform(state, &m);
-            }
-        }
-        model.bring_highest(image::number16(bytes, image::HIGHEST));
-        model
-            .rust
-            .set_material(&records::material(&bytes[image::MATERIAL..]));
-        for i in (0..SLOTS).filter(|i| bytes[image::DEFINED] & (1 << i) != 0) {
-            let enabled = bytes[image::ENABLED] & (1 << i) != 0;
-            model.bring_light(i as u32, &bytes[image::slot(i)..], enabled);
-        }
-        for at in 0..usize::from(image::number16(bytes, image::COUNT)) {
-            let entry = &bytes[image::entry(at)..];
-            let index = image::number32(entry, 0);
-            model.overflow.insert(index);
-            model.bring_light(index, &entry[8..], image::number32(entry, 4) != 0);
-        }
-        model.rust.take_ff_vs_dirty();
-        model.mark(bytes[image::DIRTY]);
-        model
-    }
-
-    fn bring_light(&mut self, index: u32, light: &[u8], enabled: bool) {
-        self.rust.set_light_at(index, &records::light(light));
-        self.rust.set_light_enabled_at(index, enabled);
-    }
-
-    fn bring_highest(&mut self, highest: u16) {
-        if usize::from(highest) < self.rust.world_palette_used() - 1 {
-            self.lowered = Some(highest);
-        } else {
-            let state = D3DTS_WORLD + u32::from(highest);
-            let m = *self.transform(state);
-            self.rust.set_transform(state, &m);
         }
     }
 
@@ -156,7 +112,7 @@ impl Model {
     }
 
     /// The Rust answers with them only through a key: one of a lit draw that is not transformed.
-    pub(crate) fn compacted_light_masks(&self) -> [u8; 3] {
+    fn compacted_light_masks(&self) -> [u8; 3] {
         let mut render_states = [0; RENDER_STATE_COUNT];
         render_states[D3DRS_LIGHTING as usize] = 1;
         let layout = FfVsLayout {
@@ -186,34 +142,72 @@ impl Model {
         }
     }
 
-    /// The refusals of a call on an image that can be read, in their order, 4 last but for 7.
+    /// The mask that a key must have, where it is not 0.
+    #[must_use]
+    pub fn active(&self) -> u8 {
+        self.compacted_light_masks()[0]
+    }
+
+    /// The refusals of a call on an image that can be read, in their order.
     fn refused(&self, call: &Call) -> Option<u32> {
-        let form = call.name.form();
-        let own = match call.name {
+        let number = call.number;
+        let unfit = match call.name {
             Name::SetTransform | Name::MultiplyTransform | Name::Transform => {
-                (image::place(call.number).is_none()).then_some(refusal::UNKNOWN_STATE)
+                (image::place(number).is_none()).then_some(refusal::UNKNOWN_STATE)
             }
             Name::GetLightAt => {
-                (!self.rust.is_light_defined_at(call.number)).then_some(refusal::UNDEFINED_LIGHT)
+                (!self.rust.is_light_defined_at(number)).then_some(refusal::UNDEFINED_LIGHT)
             }
             Name::SetLightAt | Name::SetLightEnabledAt => {
-                (!self.has_room(call.number)).then_some(refusal::TABLE_FULL)
+                (!self.has_room(number)).then_some(refusal::TABLE_FULL)
             }
-            Name::MarkFfVsDirty => (call.number > 63).then_some(refusal::UNKNOWN_BITS),
+            Name::MarkFfVsDirty => (number > 63).then_some(refusal::UNKNOWN_BITS),
             _ => None,
         };
-        let given = form.takes.is_some_and(|bytes| call.given.len() != bytes);
-        let lent = matches!(form.gives, Gives::Item(bytes) if call.lent != bytes);
-        own.or((given || lent).then_some(refusal::WRONG_LENGTH))
+        let length = || call.has_wrong_length().then_some(refusal::WRONG_LENGTH);
+        unfit.or_else(length).or_else(|| self.unfit_key(call))
+    }
+
+    fn unfit_key(&self, call: &Call) -> Option<u32> {
+        let mask = call.key.light_active_mask;
+        match call.name {
+            Name::Refresh if call.key.has_rhw != 0 => Some(refusal::TRANSFORMED),
+            Name::Refresh | Name::FillLights if mask != 0 && mask != self.active() => {
+                Some(refusal::WRONG_MASK)
+            }
+            _ => None,
+        }
+    }
+
+    /// Takes the bits and puts the rows of each section that they name into a copy of the mirror.
+    fn refresh(&mut self, call: &Call, mirror: &[u8]) -> Output {
+        let bits = self.take();
+        let mut mirror = mirror.to_vec();
+        for section in FIVE.into_iter().filter(|section| bits & section.bit() != 0) {
+            mirror[section.place(call.key)].copy_from_slice(&section.fill(&self.rust, call.key));
+        }
+        Output::Refreshed(u32::from(bits), mirror)
     }
 
     /// Answers a call other than ff_image_fresh on the image that reads as this state.
-    pub fn answer(&mut self, call: &Call) -> Answer {
+    pub fn answer(&mut self, call: &Call, mirror: &[u8]) -> Answer {
         if let Some(number) = self.refused(call) {
             return Err(number);
         }
+        let key = || call.key.rust();
+        Ok(match call.name.form().gives {
+            Gives::RowCount => Output::Number(u32::from(self.rust.ff_vs_row_count(&key()))),
+            Gives::Rows(section) => Output::Number(section.rust_rows(&self.rust, &key())),
+            Gives::Fill(section) => Output::Bytes(section.fill(&self.rust, call.key)),
+            Gives::Mirror => self.refresh(call, mirror),
+            Gives::Nothing | Gives::Number | Gives::Item(_) => self.answer_unkeyed(call),
+        })
+    }
+
+    /// Answers an accepted call that takes no key.
+    fn answer_unkeyed(&mut self, call: &Call) -> Output {
         let number = call.number;
-        Ok(match call.name {
+        match call.name {
             Name::ImageFresh => unreachable!("its image is not read"),
             Name::ImageCheck => Output::Nothing,
             Name::SetTransform => {
@@ -273,51 +267,14 @@ impl Model {
                 Output::Nothing
             }
             Name::TakeFfVsDirty => Output::Number(u32::from(self.take())),
-        })
+            _ => unreachable!("it takes a key"),
+        }
     }
 
     fn light(&self, index: u32) -> D3DLIGHT9 {
         self.rust
             .get_light_at(index)
             .expect("a light that the Rust calls defined")
-    }
-
-    /// The image of the state, every field from a read of the Rust's.
-    pub fn write(&mut self, bytes: &mut [u8]) {
-        assert_eq!(bytes.len(), BYTES);
-        let palette = D3DTS_WORLD..D3DTS_WORLD + MATRICES as u32;
-        let textures = D3DTS_TEXTURE0..D3DTS_TEXTURE0 + TEXTURES as u32;
-        for state in [2, 3].into_iter().chain(textures).chain(palette) {
-            let at = image::place(state).expect("a known state");
-            records::put_matrix(self.transform(state), &mut bytes[at..at + MATRIX]);
-        }
-        records::put_material(self.rust.material(), &mut bytes[image::MATERIAL..]);
-        let (mut enabled, mut defined) = (0, 0);
-        for i in 0..SLOTS {
-            records::put_light(self.rust.light(i), &mut bytes[image::slot(i)..]);
-            enabled |= u8::from(self.rust.is_light_enabled_at(i as u32)) << i;
-            defined |= u8::from(self.rust.is_light_defined_at(i as u32)) << i;
-        }
-        bytes[image::ENABLED] = enabled;
-        bytes[image::DEFINED] = defined;
-        bytes[image::DIRTY] = self.dirty();
-        bytes[image::ZERO] = 0;
-        let highest = (self.world_palette_used() - 1) as u16;
-        bytes[image::HIGHEST..image::COUNT].copy_from_slice(&highest.to_le_bytes());
-        let count = self.overflow.len() as u16;
-        bytes[image::COUNT..image::ENTRIES].copy_from_slice(&count.to_le_bytes());
-        let entries = bytes[image::ENTRIES..].chunks_mut(image::ENTRY);
-        let mut stored = self.overflow.iter();
-        for entry in entries {
-            let Some(&index) = stored.next() else {
-                entry.fill(0);
-                continue;
-            };
-            let enable = u32::from(self.rust.is_light_enabled_at(index));
-            entry[..4].copy_from_slice(&index.to_le_bytes());
-            entry[4..8].copy_from_slice(&enable.to_le_bytes());
-            records::put_light(&self.light(index), &mut entry[8..]);
-        }
     }
 }
 

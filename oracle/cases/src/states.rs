@@ -6,7 +6,6 @@ use crate::floats::{self, NAN, ONE, SIGN, SPECIAL, scaled};
 use crate::image::{MATRICES, SLOTS};
 use crate::lists;
 use crate::matrices::{self, KINDS, Kind};
-use crate::model::Model;
 use crate::random::Random;
 
 const VIEW: u32 = 2;
@@ -36,52 +35,40 @@ pub fn calls(seed: u64, number: u64) -> Vec<Call> {
     }
     let mut random = Random::of_input(seed ^ 0x7061_636B, number);
     let mut calls = transforms(&mut random);
-    calls.push(Call {
-        given: floats_of(MATERIAL / 4, &mut random),
-        ..Call::plain(Name::SetMaterial)
-    });
+    calls.push(set_material(floats_of(MATERIAL / 4, &mut random)));
     lights(&mut random, &mut calls);
     calls
-}
-
-/// The state that a list of calls leaves, from a fresh one on. Calls that are refused leave it alone.
-#[must_use]
-pub fn state(calls: &[Call]) -> Model {
-    let mut model = Model::fresh();
-    for call in calls {
-        if call.name == Name::ImageFresh {
-            model = Model::fresh();
-        } else {
-            let _ = model.answer(call);
-        }
-    }
-    model
 }
 
 #[must_use]
 pub fn set_transform(state: u32, m: &Words) -> Call {
     Call {
-        number: state,
         given: bytes(m),
-        ..Call::plain(Name::SetTransform)
+        ..Call::numbered(Name::SetTransform, state)
+    }
+}
+
+#[must_use]
+pub fn set_material(given: Vec<u8>) -> Call {
+    Call {
+        given,
+        ..Call::plain(Name::SetMaterial)
     }
 }
 
 #[must_use]
 pub fn set_light(index: u32, light: &[u32; LIGHT / 4]) -> Call {
     Call {
-        number: index,
         given: bytes(light),
-        ..Call::plain(Name::SetLightAt)
+        ..Call::numbered(Name::SetLightAt, index)
     }
 }
 
 #[must_use]
 pub fn enable(index: u32, enabled: u32) -> Call {
     Call {
-        number: index,
         enabled,
-        ..Call::plain(Name::SetLightEnabledAt)
+        ..Call::numbered(Name::SetLightEnabledAt, index)
     }
 }
 

@@ -1,21 +1,32 @@
-//! One running image, as a host holds it, and what each call on it must answer and leave.
+//! One running image and one running mirror, as a host holds them, and what each call on them must answer and leave.
 
+use crate::book::Book;
 use crate::call::{Call, Name};
+use crate::claim::Claim;
+use crate::damage::patch;
 use crate::image::{self, BYTES, Reason};
 use crate::model::{Answer, Model, Output, refusal};
+use crate::section::{MIRROR, Section};
 
 pub struct World {
     model: Model,
     image: Vec<u8>,
+    mirror: Vec<u8>,
+    book: Book,
+    claim: Claim,
 }
 
 /// What a call must answer, and why its image was refused.
 pub struct Judged {
+    /// The call as it is made: its mask is settled.
+    pub call: Call,
     pub answer: Answer,
     pub reasons: Vec<Reason>,
     /// Whether the call's image is the running one afterwards. A damaged image that is refused is
     /// not: it must be as it was given, and the list goes on with the running one.
     pub ran: bool,
+    /// After a refresh for which demand 3's conditions hold, the sections whose count must be 0, by their bits.
+    pub due: Option<u8>,
 }
 
 impl Judged {
@@ -33,12 +44,29 @@ impl Default for World {
 }
 
 impl World {
+    /// A fresh state, and a mirror of zeros.
     #[must_use]
     pub fn fresh() -> Self {
         let mut model = Model::fresh();
         let mut image = vec![0; BYTES];
         model.write(&mut image);
-        Self { model, image }
+        Self {
+            model,
+            image,
+            mirror: vec![0; MIRROR],
+            book: Book::default(),
+            claim: Claim::default(),
+        }
+    }
+
+    /// The world after a list of calls on the running image, from a fresh one on.
+    #[must_use]
+    pub fn after(calls: &[Call]) -> Self {
+        let mut world = Self::fresh();
+        for call in calls {
+            world.judge(call, None);
+        }
+        world
     }
 
     /// The running image.
@@ -47,48 +75,98 @@ impl World {
         &self.image
     }
 
+    /// The running mirror.
+    #[must_use]
+    pub fn mirror(&self) -> &[u8] {
+        &self.mirror
+    }
+
     /// Judges a call; `damaged` is the image that it is given where that is not the running one.
     pub fn judge(&mut self, call: &Call, damaged: Option<&[u8]>) -> Judged {
-        if call.name == Name::ImageFresh {
-            return self.fresh_image(damaged);
-        }
-        if let Some(bytes) = damaged {
-            let reasons = image::reasons(bytes);
-            if !reasons.is_empty() {
-                return Judged {
-                    answer: Err(refusal::NO_IMAGE),
-                    reasons,
-                    ran: false,
-                };
-            }
-            self.model = Model::read(bytes);
-            self.image.copy_from_slice(bytes);
-        }
-        let answer = self.model.answer(call);
-        if answer.is_ok() && call.name.form().writes {
-            self.model.write(&mut self.image);
-        }
-        Judged {
-            answer,
+        let mut judged = Judged {
+            call: call.clone(),
+            answer: Ok(Output::Nothing),
             reasons: Vec::new(),
             ran: true,
+            due: None,
+        };
+        self.overwrite(call);
+        if call.name == Name::ImageFresh {
+            judged.ran = damaged.is_none_or(|bytes| bytes.len() == BYTES);
+            if judged.ran {
+                self.begin_again();
+            } else {
+                judged.answer = Err(refusal::WRONG_LENGTH);
+            }
+            return judged;
+        }
+        if let Some(bytes) = damaged {
+            judged.reasons = image::reasons(bytes);
+            if !judged.reasons.is_empty() {
+                judged.answer = Err(refusal::NO_IMAGE);
+                judged.ran = false;
+                return judged;
+            }
+            self.read_in(bytes);
+        }
+        if let Some(without) = call.own_mask {
+            judged.call.key.light_active_mask = self.model.active() & !without;
+        }
+        judged.answer = self.model.answer(&judged.call, &self.mirror);
+        if judged.answer.is_ok() && call.name.form().writes {
+            self.model.write(&mut self.image);
+        }
+        judged.due = self.heed(&judged.call, &judged.answer);
+        judged
+    }
+
+    fn overwrite(&mut self, call: &Call) {
+        patch(&call.overwrite, &mut self.mirror);
+        for (at, bytes) in &call.overwrite {
+            self.claim.overwritten(*at, bytes.len());
         }
     }
 
-    fn fresh_image(&mut self, damaged: Option<&[u8]>) -> Judged {
-        let ran = damaged.is_none_or(|bytes| bytes.len() == BYTES);
-        if ran {
-            *self = Self::fresh();
+    /// A fresh state, and the mirror that is there: demand 3's lists begin so.
+    fn begin_again(&mut self) {
+        let mirror = std::mem::take(&mut self.mirror);
+        *self = Self {
+            mirror,
+            ..Self::fresh()
+        };
+    }
+
+    fn read_in(&mut self, bytes: &[u8]) {
+        self.model = Model::read(bytes);
+        self.image.copy_from_slice(bytes);
+        self.book = Book::of_image(bytes);
+        self.claim.read_in();
+    }
+
+    /// What an answered call leaves in the mirror, in the book and of demand 3's conditions.
+    fn heed(&mut self, call: &Call, answer: &Answer) -> Option<u8> {
+        let output = answer.as_ref().ok()?;
+        self.book.heed(call);
+        match (call.name, output) {
+            (Name::MarkFfVsDirty, _) => self.claim.marked(call.number as u8),
+            (Name::TakeFfVsDirty, _) => self.claim.read_in(),
+            (_, Output::Refreshed(_, mirror)) => {
+                self.mirror.copy_from_slice(mirror);
+                return self.claim.refreshed(call.key);
+            }
+            _ => {}
         }
-        Judged {
-            answer: if ran {
-                Ok(Output::Nothing)
-            } else {
-                Err(refusal::WRONG_LENGTH)
-            },
-            reasons: Vec::new(),
-            ran,
-        }
+        None
+    }
+
+    /// The first of the sections that are due whose count is not 0 in a mirror under the refresh's key.
+    #[must_use]
+    pub fn stale(&self, judged: &Judged, mirror: &[u8]) -> Option<(Section, usize)> {
+        let due = judged.due?;
+        let counts = self.book.wrong_rows(judged.call.key, mirror);
+        counts
+            .into_iter()
+            .find(|&(section, count)| due & section.bit() != 0 && count != 0)
     }
 
     /// Whether the running image reads as the model's state: what reading and writing here must

@@ -1,37 +1,20 @@
 //! The model beside document 01's cases and its description of the image.
 
-use cases::call::{Call, LIGHT, Name};
+use cases::call::{Call, Name};
 use cases::damage::Damage;
 use cases::image::{self, Reason};
 use cases::lists;
 use cases::model::Output;
-use cases::packed::Packed;
-use cases::packing::{Key, Length, NAMES, Name as Packs, Pack, Section};
-use cases::states::{self, directed, set_light as light_of, set_transform};
+use cases::states::{self, directed};
 use cases::world::World;
 
-fn number(name: Name, number: u32) -> Call {
-    Call {
-        number,
-        ..Call::plain(name)
-    }
-}
-
 fn set_light(world: &mut World, index: u32, type_: u32) -> Result<Output, u32> {
-    let mut given = vec![0; LIGHT];
-    given[..4].copy_from_slice(&type_.to_le_bytes());
-    let call = Call {
-        given,
-        ..number(Name::SetLightAt, index)
-    };
+    let call = states::set_light(index, &directed(type_, [0; 3]));
     world.judge(&call, None).answer
 }
 
 fn enable(world: &mut World, index: u32, enabled: u32) {
-    let call = Call {
-        enabled,
-        ..number(Name::SetLightEnabledAt, index)
-    };
+    let call = states::enable(index, enabled);
     assert!(world.judge(&call, None).answer.is_ok());
 }
 
@@ -60,7 +43,11 @@ fn p7_light_inputs() {
 #[test]
 fn p8_transform_states() {
     let mut world = World::fresh();
-    let mut set = |state| world.judge(&number(Name::SetTransform, state), None).answer;
+    let mut set = |state| {
+        world
+            .judge(&Call::numbered(Name::SetTransform, state), None)
+            .answer
+    };
     assert_eq!(set(15), Err(1));
     assert_eq!(set(16), Ok(Output::Nothing));
     assert_eq!(set(511), Ok(Output::Nothing));
@@ -159,168 +146,4 @@ fn what_is_written_reads_as_it_was() {
             assert!(world.reads_as_written(), "list {number}, {call}");
         }
     }
-}
-
-/// The answer to a packing call on the state that the calls leave.
-fn pack(calls: &[Call], name: Packs, key: Key) -> Result<Output, u32> {
-    let packed = Packed::new(states::state(calls));
-    packed.judge(&Pack::right(name, key), None)
-}
-
-/// The rows of a section, as floats.
-fn rows(calls: &[Call], name: Packs, key: Key) -> Vec<[f32; 4]> {
-    let Ok(Output::Bytes(bytes)) = pack(calls, name, key) else {
-        panic!("refused");
-    };
-    let floats = bytes
-        .as_chunks()
-        .0
-        .iter()
-        .map(|&four| f32::from_le_bytes(four));
-    let floats: Vec<f32> = floats.collect();
-    floats.as_chunks().0.to_vec()
-}
-
-const KEY: Key = Key::of([0; 7]);
-const LIT: Key = Key {
-    lighting_enabled: 1,
-    ..KEY
-};
-const ONE_LIGHT: Key = Key {
-    light_active_mask: 1,
-    ..KEY
-};
-
-#[test]
-fn p1_to_p6_row_counts() {
-    let counts = [
-        (KEY, 11),
-        (LIT, 14),
-        (
-            Key {
-                specular_enable: 1,
-                ..LIT
-            },
-            15,
-        ),
-        (
-            Key {
-                light_active_mask: 1,
-                ..LIT
-            },
-            21,
-        ),
-        (
-            Key {
-                light_active_mask: 0xFF,
-                ..LIT
-            },
-            63,
-        ),
-        (
-            Key {
-                vertex_blend_indexed: 1,
-                vertex_blend_count: 1,
-                ..KEY
-            },
-            255,
-        ),
-        (
-            Key {
-                vertex_blend_count: 255,
-                ..KEY
-            },
-            1115,
-        ),
-        (Key { has_rhw: 1, ..KEY }, 1),
-    ];
-    for (key, count) in counts {
-        assert_eq!(
-            pack(&[], Packs::RowCount, key),
-            Ok(Output::Number(count)),
-            "{key:?}"
-        );
-    }
-}
-
-#[test]
-fn p10_a_moved_world() {
-    let mut m = [0; 16];
-    for i in 0..4 {
-        m[5 * i] = 1f32.to_bits();
-    }
-    m[12..15].copy_from_slice(&[5f32, 6.0, 7.0].map(f32::to_bits));
-    let wv = rows(&[set_transform(256, &m)], Packs::FillWv, KEY);
-    assert_eq!(wv[0], [1.0, 0.0, 0.0, 5.0]);
-    assert_eq!(wv[3], [0.0, 0.0, 0.0, 1.0]);
-}
-
-fn enabled(light: [u32; 26]) -> [Call; 2] {
-    [light_of(0, &light), states::enable(0, 1)]
-}
-
-#[test]
-fn p11_a_direction_and_p12_a_spot() {
-    let lit = enabled(directed(3, [0, 0, 2f32.to_bits()]));
-    let lights = rows(&lit, Packs::FillLights, ONE_LIGHT);
-    assert_eq!(lights[0][3], 3.0);
-    assert_eq!(lights[1], [0.0, 0.0, 1.0, 1e-6]);
-
-    let spot = enabled(directed(2, [0; 3]));
-    let lights = rows(&spot, Packs::FillLights, ONE_LIGHT);
-    assert_eq!(lights[0][3], 2.0);
-    assert_eq!(lights[3][3], -1_000_000.0);
-    assert_eq!(lights[5][3], 1_000_000.0);
-}
-
-/// Run only: its square overflows, so the length is infinite.
-#[test]
-fn a_direction_of_1e20_packs_zeros() {
-    for axis in 0..3 {
-        for (sign, expected) in [(1.0, 0), (-1.0, 0x8000_0000)] {
-            let mut direction = [0; 3];
-            direction[axis] = (sign * 1e20f32).to_bits();
-            let lights = rows(
-                &enabled(directed(3, direction)),
-                Packs::FillLights,
-                ONE_LIGHT,
-            );
-            let mut zeros = [0; 3];
-            zeros[axis] = expected;
-            let [x, y, z, _] = lights[1].map(f32::to_bits);
-            assert_eq!([x, y, z], zeros);
-        }
-    }
-}
-
-/// 4 goes before 5, 5 is an exact comparison, and a mask of 0 is never refused 5.
-#[test]
-fn refusals_of_packing() {
-    let calls = [0, 1, 9].map(|index| states::enable(index, 1));
-    let packed = Packed::new(states::state(&calls));
-    assert_eq!(packed.active(), 7);
-    let lights = |mask: u8, length: Length| {
-        let key = Key {
-            light_active_mask: mask,
-            has_rhw: 1,
-            ..KEY
-        };
-        let pack = Pack {
-            length,
-            ..Pack::right(Packs::FillLights, key)
-        };
-        packed.judge(&pack, None).map(|_| ())
-    };
-    for mask in 1..=255 {
-        let expected = if mask == 7 { Ok(()) } else { Err(5) };
-        assert_eq!(lights(mask, Length::Right), expected);
-        assert_eq!(lights(mask, Length::Bytes(0)), Err(4));
-    }
-    assert_eq!(lights(0, Length::Right), Ok(()));
-    assert_eq!(lights(0, Length::Bytes(96)), Err(4));
-    for &name in NAMES {
-        let pack = Pack::right(name, KEY);
-        assert_eq!(packed.judge(&pack, Some(&[])), Err(9));
-    }
-    assert_eq!(Section::Tt.rows(LIT), 0);
 }

@@ -3,9 +3,12 @@
 
 mod changes;
 mod images;
+mod lights;
 mod reads;
+mod refreshes;
+mod rows;
 
-use cases::call::{Call, Gives, Name};
+use cases::call::{Call, Name};
 use cases::image;
 
 use crate::bends::{BENDS, Bend};
@@ -32,26 +35,27 @@ impl Held<'_> {
         )
     }
 
-    /// The call on a copy of the image alone: what it answers, and the image it leaves.
-    fn tried(&self, call: &Call, given: &[u8]) -> (u32, Vec<u8>) {
+    /// What a call without arguments answers on a copy of the image, where it does not refuse it.
+    fn read(&self, name: Name) -> Option<u32> {
         let mut image = self.lent.image.to_vec();
-        let mut out = vec![0; call.lent];
         let mut number = 0;
-        let status = host::on_image(
-            call,
-            Lent {
-                image: &mut image,
-                given,
-                out: &mut out,
-                number: &mut number,
-            },
-        );
-        (status, image)
+        let lent = Lent {
+            image: &mut image,
+            given: &[],
+            out: &mut [],
+            number: &mut number,
+        };
+        (host::on_image(&Call::plain(name), lent) == ACCEPTED).then_some(number)
     }
 
     fn is_image(&self) -> bool {
-        let check = Call::plain(Name::ImageCheck);
-        self.tried(&check, &[]).0 == ACCEPTED
+        self.read(Name::ImageCheck).is_some()
+    }
+
+    /// The compacted active mask, where the bytes are an image.
+    fn active(&self) -> Option<u8> {
+        let masks = self.read(Name::CompactedLightMasks)?;
+        Some(masks as u8)
     }
 
     /// The bytes of the image where it is as long as one.
@@ -59,10 +63,17 @@ impl Held<'_> {
         (self.lent.image.len() == image::BYTES).then_some(&mut *self.lent.image)
     }
 
-    fn wrong_length(&self, call: &Call) -> bool {
-        let form = call.name.form();
-        form.takes.is_some_and(|bytes| call.given.len() != bytes)
-            || matches!(form.gives, Gives::Item(bytes) if call.lent != bytes)
+    fn matrix(&self, at: usize) -> Vec<u8> {
+        self.lent.image[at..at + 64].to_vec()
+    }
+
+    /// A number of the lent slice.
+    fn word(&self, at: usize) -> u32 {
+        image::number32(self.lent.out, at)
+    }
+
+    fn put(&mut self, at: usize, word: u32) {
+        self.lent.out[at..at + 4].copy_from_slice(&word.to_le_bytes());
     }
 
     fn count(&self) -> usize {
@@ -75,6 +86,12 @@ impl Held<'_> {
             .map(image::entry)
             .find(|&at| image::number32(self.lent.image, at) == index)
     }
+}
+
+/// Changes the byte past a slice.
+fn past(slice: &mut [u8]) {
+    // SAFETY: every slice that the driver lends lies inside a longer buffer.
+    unsafe { *slice.as_mut_ptr().add(slice.len()) ^= 1 };
 }
 
 /// The name of the call that a bend is about.
@@ -97,6 +114,8 @@ pub fn call(bend: Bend, call: &Call, lent: Lent<'_>) -> u32 {
         Name::SetMaterial => changes::set_material(bend, call, held),
         Name::SetLightAt | Name::SetLightEnabledAt => changes::change_light(bend, call, held),
         Name::MarkFfVsDirty | Name::TakeFfVsDirty => changes::dirty(bend, call, held),
+        Name::Refresh => refreshes::refresh(bend, call, held),
+        name if name.packs() => rows::pack(bend, call, held),
         _ => reads::read(bend, call, held),
     }
 }

@@ -110,6 +110,7 @@ bends! {
     "ff_multiply_transform" {
         MultiplyForgetsHighest, "multiply-forgets-highest", ["calls"];
         MultiplySwapped, "multiply-swapped", ["calls"];
+        MultiplyEqualKeepsClean, "multiply-equal-keeps-clean", ["calls"];
     }
     "ff_transform" {
         TransformLonger, "transform-longer", ["calls"];
@@ -130,6 +131,8 @@ bends! {
         MaterialNegativeZero, "material-negative-zero", ["calls"];
         MaterialFlushes, "material-flushes", ["calls"];
         MaterialRefusalWrites, "material-refusal-writes", ["calls"];
+        MaterialEqualKeepsClean, "material-equal-keeps-clean", ["calls"];
+        MaterialArgument, "material-argument", ["calls"];
     }
     "ff_material" {
         MaterialTakes, "material-read-takes", ["calls"];
@@ -145,6 +148,7 @@ bends! {
         LightTypeNan, "light-type-nan", ["calls"];
         LightLeavesClean, "light-leaves-clean", ["calls"];
         LightRefusesOdd, "light-drops-odd-type", ["calls"];
+        LightEqualKeepsClean, "light-equal-keeps-clean", ["calls"];
     }
     "ff_set_light_enabled_at" {
         EnabledOne, "enabled-one-only", ["calls"];
@@ -153,6 +157,7 @@ bends! {
         EnableDropped, "enable-dropped", ["calls"];
         EnableAlpha, "enable-alpha", ["calls"];
         EnableCount, "enable-count", ["calls"];
+        EnableEqualKeepsClean, "enable-equal-keeps-clean", ["calls"];
     }
     "ff_get_light_at" {
         GetLengthBeforeUndefined, "get-length-before-undefined", ["calls"];
@@ -186,6 +191,7 @@ bends! {
     "ff_take_ff_vs_dirty" {
         TakeKeeps, "take-keeps", ["calls"];
         TakeForgets, "take-forgets", ["calls"];
+        TakeGuard, "take-guard", ["calls"];
         TakeRefusalNumber, "take-refusal-number", ["calls"];
     }
     "ff_vs_row_count" {
@@ -195,6 +201,12 @@ bends! {
         CountFlagLow, "count-flag-low", ["row-count"];
         CountCap, "count-cap", ["row-count"];
         CountRefusalNumber, "count-refusal-number", ["packs"];
+    }
+    "ff_wv_section_rows" {
+        WvRowsOff, "wv-rows-off", ["calls", "packs"];
+    }
+    "ff_proj_section_rows" {
+        ProjRowsNone, "proj-rows-none", ["calls", "packs"];
     }
     "ff_material_section_rows" {
         MaterialRowsUnlit, "material-rows-unlit", ["packs"];
@@ -262,6 +274,38 @@ bends! {
     }
     "ff_fill_tt_section" {
         TtStages, "tt-stages", ["packs"];
+    }
+    "ff_refresh" {
+        RefreshKeepsBits, "refresh-keeps-bits", ["calls"];
+        RefreshForgetsWv, "refresh-forgets-wv", ["calls"];
+        RefreshForgetsProj, "refresh-forgets-proj", ["calls"];
+        RefreshForgetsMaterial, "refresh-forgets-material", ["calls"];
+        RefreshForgetsLights, "refresh-forgets-lights", ["calls"];
+        RefreshForgetsPalette, "refresh-forgets-palette", ["calls"];
+        RefreshRowLate, "refresh-row-late", ["calls"];
+        RefreshPaletteLate, "refresh-palette-late", ["calls"];
+        RefreshLightsUnlit, "refresh-lights-unlit", ["calls"];
+        RefreshFirstOnly, "refresh-first-only", ["calls"];
+        RefreshAlways, "refresh-always", ["calls"];
+        RefreshWhole, "refresh-whole", ["calls"];
+        RefreshOneNan, "refresh-one-nan", ["calls"];
+        RefreshTtRows, "refresh-tt-rows", ["calls"];
+        RefreshBits, "refresh-bits", ["calls"];
+        RefreshBitsLeft, "refresh-bits-left", ["calls"];
+        RefreshMaskClean, "refresh-mask-clean", ["calls"];
+        RefreshMaskZero, "refresh-mask-zero", ["calls"];
+        RefreshMaskUnlit, "refresh-mask-unlit", ["calls"];
+        RefreshRhwLow, "refresh-rhw-low", ["calls"];
+        RefreshLengthBeforeImage, "refresh-length-before-image", ["calls"];
+        RefreshRhwBeforeLength, "refresh-rhw-before-length", ["calls"];
+        RefreshMaskBeforeRhw, "refresh-mask-before-rhw", ["calls"];
+        RefreshMaskBeforeLength, "refresh-mask-before-length", ["calls"];
+        RefreshLonger, "refresh-longer", ["calls"];
+        RefreshRefusalWrites, "refresh-refusal-writes", ["calls"];
+        RefreshMaskWrites, "refresh-mask-writes", ["calls"];
+        RefreshRefusalTakes, "refresh-refusal-takes", ["calls"];
+        RefreshRefusalNumber, "refresh-refusal-number", ["calls"];
+        RefreshGuard, "refresh-guard", ["calls"];
     }
 }
 

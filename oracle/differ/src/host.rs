@@ -1,10 +1,9 @@
 //! Our library, as the host sees it (HOST-ABI.md), with the bends of the self-test in between.
 
 use cases::call::{Call, Name};
-use cases::packing::{self, Pack};
 
 use crate::bends::Bend;
-use crate::{bend, bend_calls, bend_packs, raw};
+use crate::{bend, bend_calls, raw};
 
 pub const SQRT: &str = "ff_sqrt";
 pub const COS: &str = "ff_cos";
@@ -66,23 +65,9 @@ impl Host {
             Some(bend) => bend_calls::call(bend, call, lent),
         }
     }
-
-    pub fn pack(self, pack: &Pack, lent: LentToPack<'_>) -> u32 {
-        match self.bend {
-            None => pack_section(pack.name, pack.key.fields(), lent),
-            Some(bend) => bend_packs::pack(bend, pack, lent),
-        }
-    }
 }
 
-/// What a packing call is lent.
-pub struct LentToPack<'a> {
-    pub image: &'a [u8],
-    pub dst: &'a mut [u8],
-    pub number: &'a mut u32,
-}
-
-/// What a call on an image is lent beside its numbers.
+/// What a call on an image is lent beside its numbers; `out` is an item, rows or a mirror.
 pub struct Lent<'a> {
     pub image: &'a mut [u8],
     pub given: &'a [u8],
@@ -101,9 +86,13 @@ pub fn on_image(call: &Call, lent: Lent<'_>) -> u32 {
     let (image, image_len) = (image.as_mut_ptr(), image.len());
     let (given, given_len) = (given.as_ptr(), given.len());
     let (out, out_len) = (out.as_mut_ptr(), out.len());
+    let number: *mut u32 = number;
     let n = call.number;
+    let [a, b, c, d, e, f, g] = call.key.fields();
     // SAFETY: each pointer goes with its slice's length, and no two of them overlap.
     unsafe {
+        let counts = |call: Counts| call(image, image_len, a, b, c, d, e, f, g, number);
+        let fills = |call: Fills| call(image, image_len, a, b, c, d, e, f, g, out, out_len);
         match call.name {
             Name::ImageFresh => raw::ff_image_fresh(image, image_len),
             Name::ImageCheck => raw::ff_image_check(image, image_len),
@@ -129,6 +118,22 @@ pub fn on_image(call: &Call, lent: Lent<'_>) -> u32 {
             Name::CompactedLightMasks => raw::ff_compacted_light_masks(image, image_len, number),
             Name::MarkFfVsDirty => raw::ff_mark_ff_vs_dirty(image, image_len, n),
             Name::TakeFfVsDirty => raw::ff_take_ff_vs_dirty(image, image_len, number),
+            Name::RowCount => counts(raw::ff_vs_row_count),
+            Name::WvRows => counts(raw::ff_wv_section_rows),
+            Name::ProjRows => counts(raw::ff_proj_section_rows),
+            Name::MaterialRows => counts(raw::ff_material_section_rows),
+            Name::LightsRows => counts(raw::ff_lights_section_rows),
+            Name::PaletteRows => counts(raw::ff_palette_section_rows),
+            Name::TtRows => counts(raw::ff_tt_section_rows),
+            Name::FillWv => fills(raw::ff_fill_wv_section),
+            Name::FillProj => fills(raw::ff_fill_proj_section),
+            Name::FillMaterial => fills(raw::ff_fill_material_section),
+            Name::FillLights => fills(raw::ff_fill_lights_section),
+            Name::FillPalette => fills(raw::ff_fill_palette_section),
+            Name::FillTt => fills(raw::ff_fill_tt_section),
+            Name::Refresh => {
+                raw::ff_refresh(image, image_len, a, b, c, d, e, f, g, out, out_len, number)
+            }
         }
     }
 }
@@ -137,49 +142,6 @@ pub fn on_image(call: &Call, lent: Lent<'_>) -> u32 {
 type Counts = unsafe extern "C" fn(*const u8, usize, u8, u8, u8, u8, u8, u8, u8, *mut u32) -> u32;
 type Fills =
     unsafe extern "C" fn(*const u8, usize, u8, u8, u8, u8, u8, u8, u8, *mut u8, usize) -> u32;
-
-/// Makes the packing call; of what is lent it is handed what its form has.
-pub fn pack_section(name: packing::Name, key: [u8; 7], lent: LentToPack<'_>) -> u32 {
-    use packing::Name as Packs;
-    let counts: Counts = match name {
-        Packs::RowCount => raw::ff_vs_row_count,
-        Packs::WvRows => raw::ff_wv_section_rows,
-        Packs::ProjRows => raw::ff_proj_section_rows,
-        Packs::MaterialRows => raw::ff_material_section_rows,
-        Packs::LightsRows => raw::ff_lights_section_rows,
-        Packs::PaletteRows => raw::ff_palette_section_rows,
-        Packs::TtRows => raw::ff_tt_section_rows,
-        Packs::FillWv => return fill(raw::ff_fill_wv_section, key, lent),
-        Packs::FillProj => return fill(raw::ff_fill_proj_section, key, lent),
-        Packs::FillMaterial => return fill(raw::ff_fill_material_section, key, lent),
-        Packs::FillLights => return fill(raw::ff_fill_lights_section, key, lent),
-        Packs::FillPalette => return fill(raw::ff_fill_palette_section, key, lent),
-        Packs::FillTt => return fill(raw::ff_fill_tt_section, key, lent),
-    };
-    let (image, [a, b, c, d, e, f, g]) = (lent.image, key);
-    // SAFETY: the pointer goes with its slice's length, and the number is apart from it.
-    unsafe {
-        counts(
-            image.as_ptr(),
-            image.len(),
-            a,
-            b,
-            c,
-            d,
-            e,
-            f,
-            g,
-            lent.number,
-        )
-    }
-}
-
-fn fill(fills: Fills, key: [u8; 7], lent: LentToPack<'_>) -> u32 {
-    let (image, dst, [a, b, c, d, e, f, g]) = (lent.image, lent.dst, key);
-    let (to, len) = (dst.as_mut_ptr(), dst.len());
-    // SAFETY: each pointer goes with its slice's length, and the two are apart.
-    unsafe { fills(image.as_ptr(), image.len(), a, b, c, d, e, f, g, to, len) }
-}
 
 pub fn mat_mul(a: &[u8], b: &[u8], out: &mut [u8]) -> u32 {
     // SAFETY: each pointer goes with its slice's length, and `out` overlaps neither factor.

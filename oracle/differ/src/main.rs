@@ -3,24 +3,22 @@
 
 mod bend;
 mod bend_calls;
-mod bend_packs;
 mod bends;
 mod bent;
 mod bytes;
-mod calls;
 mod guarded;
 mod handed;
 mod host;
 mod lengths;
+mod lists;
 mod matrices;
-mod packs;
 mod raw;
 mod report;
 mod scalars;
 mod self_test;
 mod shrink;
 mod shrink_list;
-mod shrink_pack;
+mod step;
 mod tally;
 mod vectors;
 mod workers;
@@ -28,12 +26,15 @@ mod workers;
 use std::hint::black_box;
 use std::process::ExitCode;
 
+use cases::packs;
 use host::Host;
 use report::{Outcome, Run};
 
 const DIFFERENT: u8 = 1;
 const UNUSABLE: u8 = 2;
-/// The short run tries one count of so many.
+/// The seed where none is given.
+const FIRST_SEED: u64 = 1;
+/// The short run tries one row count of so many.
 const SPARSE: usize = 51;
 
 struct Arguments {
@@ -47,7 +48,7 @@ fn arguments() -> Result<Arguments, String> {
     let mut given = std::env::args().skip(1);
     let mut arguments = Arguments {
         command: given.next().ok_or("no command")?,
-        seed: 1,
+        seed: FIRST_SEED,
         count: None,
         host: Host { bend: None },
     };
@@ -78,8 +79,13 @@ fn sums_start_at_negative_zero() -> bool {
     zeros.iter().sum::<f32>().to_bits() == (-0.0f32).to_bits()
 }
 
-/// A mix of everything, small enough for the merge gate.
-fn short(run: &mut Run, host: Host) -> Result<Outcome, String> {
+/// Calls of the short run's lists, with each of its two seeds.
+const SHORT_CALLS: u64 = 300_000;
+const SHORT_PACKS: u64 = 150_000;
+
+/// A mix of everything, small enough for the merge gate: with seed 1, then the lists with another.
+fn short(run: &mut Run, host: Host, seed: u64) -> Result<Outcome, String> {
+    run.seed = FIRST_SEED;
     let vectors = [vectors::roots(run, host)?, vectors::cosines(run, host)?];
     Ok(vectors
         .into_iter()
@@ -88,28 +94,35 @@ fn short(run: &mut Run, host: Host) -> Result<Outcome, String> {
         .and_then(|()| scalars::cosines(run, host, 2_000_000))
         .and_then(|()| matrices::matrices(run, host, 400_000))
         .and_then(|()| lengths::lengths(run, host))
-        .and_then(|()| calls::calls(run, host, 500_000))
-        .and_then(|()| packs::packs(run, host, 300_000))
-        .and_then(|()| packs::row_counts(run, host, SPARSE)))
+        .and_then(|()| lists::row_counts(run, host, SPARSE))
+        .and_then(|()| short_lists(run, host))
+        .and_then(|()| {
+            run.seed = seed;
+            short_lists(run, host)
+        }))
+}
+
+fn short_lists(run: &mut Run, host: Host) -> Outcome {
+    lists::calls(run, host, SHORT_CALLS).and_then(|()| lists::packs(run, host, SHORT_PACKS))
 }
 
 fn compare(run: &mut Run, arguments: &Arguments) -> Result<Outcome, String> {
     let host = arguments.host;
     let count = |default| arguments.count.unwrap_or(default);
     Ok(match arguments.command.as_str() {
-        "short" => short(run, host)?,
+        "short" => short(run, host, arguments.seed)?,
         "sqrt" => scalars::roots(run, host, count(50_000_000)),
         "sqrt-all" => scalars::all_roots(run, host),
         "cos" => scalars::cosines(run, host, count(20_000_000)),
         "matrix" => matrices::matrices(run, host, count(5_000_000)),
         "lengths" => lengths::lengths(run, host),
-        "calls" => calls::calls(run, host, count(20_000_000)),
-        "packs" => packs::packs(run, host, count(20_000_000)),
+        "calls" => lists::calls(run, host, count(20_000_000)),
+        "packs" => lists::packs(run, host, count(20_000_000)),
         "row-count" => {
             let some = arguments
                 .count
-                .is_some_and(|count| count < packs::ROW_COUNTS);
-            packs::row_counts(run, host, if some { SPARSE } else { 1 })
+                .is_some_and(|count| count < packs::ROW_COUNT_LISTS * packs::ROW_COUNTS);
+            lists::row_counts(run, host, if some { SPARSE } else { 1 })
         }
         "root-vectors" => vectors::roots(run, host)?,
         "cos-vectors" => {
@@ -138,7 +151,14 @@ fn run() -> Result<ExitCode, String> {
     }
     let mut run = Run::new(arguments.seed);
     let outcome = compare(&mut run, &arguments)?;
-    println!("{}; seed {}", env!("RUSTC_VERSION"), arguments.seed);
+    let seeds = match arguments.command.as_str() {
+        "short" => format!(
+            "seed {FIRST_SEED}; the lists once more with --seed {}",
+            arguments.seed
+        ),
+        _ => format!("seed {}", arguments.seed),
+    };
+    println!("{}; {seeds}", env!("RUSTC_VERSION"));
     println!("{}", run.summary());
     match outcome {
         Ok(()) => {

@@ -1,150 +1,135 @@
-//! How often each call on an image met each refusal, and each reason to refuse an image stood alone.
+//! How often each call on an image met each refusal, each reason to refuse an image stood alone, and demand 3's rows were
+//! counted.
 
-use cases::call::{self, Call};
-use cases::image::{REASONS, Reason};
-use cases::model::Answer;
-use cases::packing::{self, Pack};
+use cases::call::{NAMES, Name};
+use cases::image::REASONS;
+use cases::model::{Answer, Output};
+use cases::section::{FIVE, FIVE_BITS};
 use cases::world::Judged;
 
 use crate::report::{Difference, Outcome, Run};
 
-/// Calls by their place and by status.
-struct Statuses<const N: usize>([[u64; 10]; N]);
-
-impl<const N: usize> Default for Statuses<N> {
-    fn default() -> Self {
-        Self([[0; 10]; N])
-    }
-}
-
-impl<const N: usize> Statuses<N> {
-    fn add(&mut self, other: &Self) {
-        let statuses = self.0.as_flattened_mut().iter_mut();
-        for (sum, count) in statuses.zip(other.0.as_flattened()) {
-            *sum += count;
-        }
-    }
-
-    /// Puts the counts of the call at a place into the run's summary.
-    fn tell(&self, run: &mut Run, at: usize, call: &'static str) {
-        for (status, &count) in self.0[at].iter().enumerate() {
-            run.count(call, status as u32, count);
-        }
-    }
-
-    /// A status that can occur at a place and was never met.
-    fn unmet(&self, at: usize, call: &'static str, refusals: &[u32]) -> Outcome {
-        let mut statuses = [0].iter().chain(refusals);
-        match statuses.find(|&&status| self.0[at][status as usize] == 0) {
-            None => Ok(()),
-            Some(status) => Err(Difference {
-                call,
-                text: format!("{call} never met status {status}: raise --count\n"),
-            }),
-        }
-    }
-}
-
-/// By reason for 9, where it stood alone.
-#[derive(Default)]
-struct Alone([u64; REASONS.len()]);
-
-impl Alone {
-    fn count(&mut self, reasons: &[Reason]) {
-        if let [reason] = *reasons {
-            self.0[reason as usize] += 1;
-        }
-    }
-
-    fn add(&mut self, other: &Self) {
-        for (sum, count) in self.0.iter_mut().zip(other.0) {
-            *sum += count;
-        }
-    }
-
-    fn tell(&self, run: &mut Run) {
-        run.note("images refused 9 for one reason alone:".to_string());
-        for ((_, words), count) in REASONS.iter().zip(self.0) {
-            run.note(format!("  {words:<40}{count:>12}"));
-        }
-    }
-
-    fn unmet(&self) -> Outcome {
-        match REASONS.iter().zip(self.0).find(|(_, count)| *count == 0) {
-            None => Ok(()),
-            Some(((_, words), _)) => Err(Difference {
-                call: "an image",
-                text: format!("no image was refused for this alone: {words}: raise --count\n"),
-            }),
-        }
-    }
-}
-
-/// Calls on a running image.
-#[derive(Default)]
 pub struct Tally {
-    statuses: Statuses<{ call::NAMES.len() }>,
-    alone: Alone,
+    /// Calls by name and by status.
+    statuses: [[u64; 10]; NAMES.len()],
+    /// By reason for 9, where it stood alone.
+    alone: [u64; REASONS.len()],
+    /// Images read in that were not the running one, and overwritings of the mirror.
+    read_in: u64,
+    overwritten: u64,
+    /// Refreshes after which rows were counted, those of them that did not write all five sections, and the sections
+    /// that were let off.
+    counted: u64,
+    partial: u64,
+    let_off: u64,
+}
+
+impl Default for Tally {
+    fn default() -> Self {
+        Self {
+            statuses: [[0; 10]; NAMES.len()],
+            alone: [0; REASONS.len()],
+            read_in: 0,
+            overwritten: 0,
+            counted: 0,
+            partial: 0,
+            let_off: 0,
+        }
+    }
+}
+
+fn wrote_all(answer: &Answer) -> bool {
+    let five = u32::from(FIVE_BITS);
+    matches!(answer, Ok(Output::Refreshed(bits, _)) if bits & five == five)
 }
 
 impl Tally {
-    pub fn count(&mut self, call: &Call, judged: &Judged) {
-        self.statuses.0[call.name as usize][judged.status() as usize] += 1;
-        self.alone.count(&judged.reasons);
+    pub fn count(&mut self, judged: &Judged) {
+        self.statuses[judged.call.name as usize][judged.status() as usize] += 1;
+        if let [reason] = judged.reasons[..] {
+            self.alone[reason as usize] += 1;
+        }
+        self.read_in += u64::from(judged.ran && judged.call.damage.is_some());
+        self.overwritten += u64::from(!judged.call.overwrite.is_empty());
+        if let Some(due) = judged.due {
+            self.counted += 1;
+            self.partial += u64::from(!wrote_all(&judged.answer));
+            self.let_off += FIVE.len() as u64 - u64::from(due.count_ones());
+        }
     }
 
     pub fn add(&mut self, other: &Self) {
-        self.statuses.add(&other.statuses);
-        self.alone.add(&other.alone);
-    }
-
-    pub fn tell(&self, run: &mut Run) {
-        for &name in call::NAMES {
-            self.statuses.tell(run, name as usize, name.form().c_name);
+        let sums = self.statuses.as_flattened_mut().iter_mut();
+        let sums = sums.chain(&mut self.alone);
+        let counts = other.statuses.as_flattened().iter().chain(&other.alone);
+        for (sum, count) in sums.zip(counts) {
+            *sum += count;
         }
-        self.alone.tell(run);
+        self.read_in += other.read_in;
+        self.overwritten += other.overwritten;
+        self.counted += other.counted;
+        self.partial += other.partial;
+        self.let_off += other.let_off;
     }
 
-    /// A refusal that can occur, or a reason that can stand alone, and was never met.
-    pub fn unmet(&self) -> Outcome {
-        for &name in call::NAMES {
-            let form = name.form();
-            self.statuses
-                .unmet(name as usize, form.c_name, form.refusals)?;
-        }
-        self.alone.unmet()
-    }
-}
-
-/// Packing calls.
-#[derive(Default)]
-pub struct PackTally {
-    statuses: Statuses<{ packing::NAMES.len() }>,
-}
-
-impl PackTally {
-    pub fn count(&mut self, pack: &Pack, answer: &Answer) {
-        let status = answer.as_ref().err().map_or(0, |&number| number);
-        self.statuses.0[pack.name as usize][status as usize] += 1;
-    }
-
-    pub fn add(&mut self, other: &Self) {
-        self.statuses.add(&other.statuses);
-    }
-
+    /// Puts the counts into the run's summary.
     pub fn tell(&self, run: &mut Run) {
-        for &name in packing::NAMES {
-            if self.statuses.0[name as usize] != [0; 10] {
-                self.statuses.tell(run, name as usize, name.c_name());
+        let made = NAMES.iter().zip(self.statuses);
+        for (name, statuses) in made.filter(|(_, statuses)| *statuses != [0; 10]) {
+            for (status, count) in statuses.into_iter().enumerate() {
+                run.count(name.form().c_name, status as u32, count);
             }
         }
     }
 
-    /// A refusal that can occur and was never met.
-    pub fn unmet(&self) -> Outcome {
-        packing::NAMES.iter().try_for_each(|&name| {
-            self.statuses
-                .unmet(name as usize, name.c_name(), name.refusals())
+    /// The notes below the table.
+    pub fn tell_notes(&self, run: &mut Run) {
+        let seed = run.seed;
+        run.note(format!(
+            "images refused 9 for one reason alone, with seed {seed}:"
+        ));
+        for ((_, words), count) in REASONS.iter().zip(self.alone) {
+            run.note(format!("  {words:<40}{count:>12}"));
+        }
+        run.note(format!(
+            "images read in: {}; overwritings of the mirror: {}",
+            self.read_in, self.overwritten
+        ));
+        run.note(format!(
+            "refreshes after which demand 3's rows were counted: {}; not all five sections written: {}; sections let off: {}",
+            self.counted, self.partial, self.let_off
+        ));
+    }
+
+    /// A status that one of these calls can have and never had.
+    pub fn unmet(&self, names: &[Name]) -> Outcome {
+        for &name in names {
+            let form = name.form();
+            let met = &self.statuses[name as usize];
+            let mut statuses = [0].iter().chain(form.refusals);
+            if let Some(status) = statuses.find(|&&status| met[status as usize] == 0) {
+                let call = form.c_name;
+                return Err(Difference {
+                    call,
+                    text: format!("{call} never met status {status}: raise --count\n"),
+                });
+            }
+        }
+        Ok(())
+    }
+
+    /// A reason that can stand alone and never did; rows that were never counted.
+    pub fn unmet_alone(&self) -> Outcome {
+        let mut reasons = REASONS.iter().zip(self.alone);
+        let reason = reasons.find(|(_, count)| *count == 0);
+        let lacking = match (reason, self.counted) {
+            (Some(((_, words), _)), _) => format!("no image was refused for this alone: {words}"),
+            (None, 0) => "demand 3's rows were never counted".to_string(),
+            (None, _) => return Ok(()),
+        };
+        Err(Difference {
+            call: "an image",
+            text: format!("{lacking}: raise --count\n"),
         })
     }
 }

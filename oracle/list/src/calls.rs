@@ -1,205 +1,30 @@
-//! A sample of calls on one running image: crates/replay_lines/src/lib.rt has the form of its lines.
+//! A sample of calls on one running image.
 
-use std::fmt::Write;
-
-use cases::call::{Call, Gives, LIGHT, NAMES, Name};
+use cases::call::{Call, Gives, Length, NAMES, Name};
 use cases::image::{self, BYTES, ROOM};
+use cases::key::Key;
 use cases::lists;
-use cases::model::{Model, Output};
-use cases::packed::Packed;
-use cases::packing::{self, Key, Length, Pack};
-use cases::world::World;
+use cases::states::{directed, enable, set_light};
 
+use crate::draws;
+use crate::running::Running;
 use crate::{SEED, Sample};
 
-/// The bytes of the running item, and so the longest slice of a line.
-const ITEM: usize = 128;
-/// The letter of a fill of the lights' section.
-const FILL_LIGHTS: char = 'U';
 /// Random lists of the sample.
 const LISTS: u64 = 10;
 
-const fn letter(name: Name) -> char {
-    match name {
-        Name::ImageFresh => 'F',
-        Name::ImageCheck => 'X',
-        Name::SetTransform => 'S',
-        Name::MultiplyTransform => 'M',
-        Name::Transform => 'T',
-        Name::WorldPaletteUsed => 'P',
-        Name::WorldViewProjection => 'W',
-        Name::SetMaterial => 'A',
-        Name::GetMaterial => 'B',
-        Name::SetLightAt => 'L',
-        Name::SetLightEnabledAt => 'E',
-        Name::GetLightAt => 'G',
-        Name::IsLightEnabledAt => 'N',
-        Name::IsLightDefinedAt => 'D',
-        Name::VsSourceLightInputs => 'V',
-        Name::CompactedLightMasks => 'C',
-        Name::MarkFfVsDirty => 'K',
-        Name::TakeFfVsDirty => 'Q',
-    }
+/// A light of zeros but for its type.
+pub fn light(index: u32, type_: u32) -> Call {
+    set_light(index, &directed(type_, [0; 3]))
 }
 
-fn digest(bytes: &[u8]) -> u32 {
-    bytes.iter().fold(0u32, |sum, &byte| {
-        sum.wrapping_add(u32::from(byte) + 1)
-            .wrapping_mul(0x0100_0193)
-    })
-}
-
-struct Calls<'a> {
-    sample: &'a mut Sample,
-    world: World,
-    image: Vec<u8>,
-    item: [u8; ITEM],
-}
-
-impl Calls<'_> {
-    /// A line that is accepted.
-    fn line(&mut self, letter: char, arguments: &[u32], number: u32) {
-        let answer = [number, digest(&self.item), digest(&self.image)];
-        self.sample.add(letter, arguments, Ok(&answer));
+/// The call with a slice that is a byte short.
+fn short(call: &Call) -> Call {
+    let mut call = call.clone();
+    if call.given.pop().is_none() {
+        call.lent = Length::Bytes(call.right_length().max(2) - 1);
     }
-
-    fn put_byte(&mut self, at: usize, byte: u8) {
-        self.image[at] = byte;
-        self.line('O', &[at as u32, u32::from(byte)], 0);
-    }
-
-    /// Puts `target` over the image.
-    fn put_image(&mut self, target: &[u8]) {
-        for (at, &byte) in target.iter().enumerate() {
-            if self.image[at] != byte {
-                self.put_byte(at, byte);
-            }
-        }
-    }
-
-    /// Puts bytes over the item's start, where they are not there yet.
-    fn put_item(&mut self, bytes: &[u8]) {
-        if self.item.starts_with(bytes) {
-            return;
-        }
-        let length = bytes.len().min(LIGHT);
-        self.item[..length].copy_from_slice(&bytes[..length]);
-        let fours = self.item[..LIGHT].as_chunks().0.iter();
-        let words: Vec<u32> = fours.map(|&four| u32::from_le_bytes(four)).collect();
-        self.line('I', &words, 0);
-    }
-
-    /// A call on the image, or on its first `length` bytes; whether it ran.
-    fn call_on(&mut self, call: &Call, length: usize) -> bool {
-        if call.name.form().takes.is_some() {
-            self.put_item(&call.given);
-        }
-        let call = Call {
-            given: self.item[..call.given.len()].to_vec(),
-            ..call.clone()
-        };
-        let judged = self.world.judge(&call, Some(&self.image[..length]));
-        if judged.ran {
-            self.image.copy_from_slice(self.world.image());
-        }
-        let second = match (call.name, call.name.form().gives) {
-            (Name::ImageFresh | Name::ImageCheck, _) => length,
-            (Name::SetLightEnabledAt, _) => call.enabled as usize,
-            (_, Gives::Item(_)) => call.lent,
-            _ => call.given.len(),
-        };
-        let (letter, arguments) = (letter(call.name), [call.number, second as u32]);
-        let number = match judged.answer {
-            Ok(Output::Number(number)) => number,
-            Ok(Output::Bytes(bytes)) => {
-                self.item[..bytes.len()].copy_from_slice(&bytes);
-                0
-            }
-            Ok(Output::Nothing) => 0,
-            Err(refusal) => {
-                self.sample.add(letter, &arguments, Err(refusal));
-                return false;
-            }
-        };
-        self.line(letter, &arguments, number);
-        judged.ran
-    }
-
-    fn call(&mut self, call: &Call) -> bool {
-        self.call_on(call, BYTES)
-    }
-
-    /// The lights' section of the image, lit, into so many bytes of the item.
-    fn fill_lights(&mut self, mask: u8, length: usize) {
-        let key = Key {
-            lighting_enabled: 1,
-            light_active_mask: mask,
-            ..Key::default()
-        };
-        let pack = Pack {
-            length: Length::Bytes(length),
-            ..Pack::right(packing::Name::FillLights, key)
-        };
-        let arguments = [u32::from(mask), length as u32];
-        match Packed::new(Model::fresh()).judge(&pack, Some(&self.image)) {
-            Err(refusal) => self.sample.add(FILL_LIGHTS, &arguments, Err(refusal)),
-            Ok(Output::Bytes(bytes)) => {
-                self.item[..bytes.len()].copy_from_slice(&bytes);
-                self.line(FILL_LIGHTS, &arguments, 0);
-            }
-            Ok(_) => unreachable!("a fill gives bytes"),
-        }
-    }
-
-    /// A call of a random list, where a line has the room for what it is given.
-    fn random(&mut self, call: &Call) {
-        if call.given.len() > ITEM || call.lent > ITEM {
-            return;
-        }
-        let Some(damage) = &call.damage else {
-            self.call(call);
-            return;
-        };
-        if let Some(length) = damage.length {
-            if matches!(call.name, Name::ImageFresh | Name::ImageCheck) && length <= BYTES {
-                self.call_on(call, length);
-            }
-            return;
-        }
-        if damage.patches.iter().any(|(_, bytes)| bytes.len() > 4) {
-            return;
-        }
-        let before = self.image.clone();
-        let mut target = before.clone();
-        damage.apply(&mut target);
-        self.put_image(&target);
-        if !self.call(call) && !image::reasons(&self.image).is_empty() {
-            self.put_image(&before);
-        }
-    }
-}
-
-fn numbered(name: Name, number: u32) -> Call {
-    Call {
-        number,
-        ..Call::plain(name)
-    }
-}
-
-fn light(index: u32, type_: u32) -> Call {
-    let mut given = vec![0; LIGHT];
-    given[..4].copy_from_slice(&type_.to_le_bytes());
-    Call {
-        given,
-        ..numbered(Name::SetLightAt, index)
-    }
-}
-
-fn enable(index: u32, enabled: u32) -> Call {
-    Call {
-        enabled,
-        ..numbered(Name::SetLightEnabledAt, index)
-    }
+    call
 }
 
 /// Document 01's cases P7, P8 and P9, each on a fresh image.
@@ -211,6 +36,9 @@ fn cases() -> Vec<Call> {
         enable(0, 1),
         light(3, 2),
         enable(3, 1),
+        // A directional light and a spot that are defined and do not light.
+        light(1, 3),
+        light(2, 2),
         inputs.clone(),
         light(9, 1),
         enable(9, 1),
@@ -221,101 +49,136 @@ fn cases() -> Vec<Call> {
         fresh.clone(),
     ];
     for state in [15, 16, 511, 512] {
-        calls.push(numbered(Name::SetTransform, state));
-        calls.push(numbered(Name::Transform, state));
+        calls.push(Call::numbered(Name::SetTransform, state));
+        calls.push(Call::numbered(Name::Transform, state));
         calls.push(Call::plain(Name::WorldPaletteUsed));
     }
     calls.push(fresh);
     // Falling indices, so that each entry is put before the others.
     calls.extend((0..=ROOM as u32).map(|i| light(1000 - i, 1)));
     calls.push(enable(2000, 1));
-    calls.push(numbered(Name::GetLightAt, 945));
+    calls.push(Call::numbered(Name::GetLightAt, 945));
     calls
 }
 
 /// Each call on an image with one byte damaged, which is then put back.
-fn damaged(calls: &mut Calls) {
+fn damaged(running: &mut Running) {
     for (&name, at) in NAMES
         .iter()
         .zip([image::DIRTY, image::ZERO, BYTES - 1].iter().cycle())
     {
-        let kept = calls.image[*at];
-        calls.put_byte(*at, kept | 0x40);
-        calls.call(&Call::plain(name));
+        let kept = running.image[*at];
+        running.put_byte(*at, kept | 0x40);
+        running.call(&Call::plain(name));
         if name != Name::ImageFresh {
-            calls.put_byte(*at, kept);
+            running.put_byte(*at, kept);
         }
     }
 }
 
-/// Fills of one light's rows, each of their refusals among them: no image, a wrong length, another mask.
-fn fills(calls: &mut Calls) {
-    let kept = calls.image[image::ZERO];
-    calls.put_byte(image::ZERO, 1);
-    calls.fill_lights(1, 96);
-    calls.put_byte(image::ZERO, kept);
-    calls.call(&Call::plain(Name::ImageFresh));
-    for call in [light(3, 2), enable(3, 1), enable(100, 1)] {
-        for (mask, length) in [(0, 0), (0, 96), (1, 96), (1, 95), (1, 97), (1, 0), (2, 96)] {
-            calls.fill_lights(mask, length);
+/// Each call that is given or lent a slice, with one that is a byte short and nothing else that is refused.
+fn short_slices() -> Vec<Call> {
+    let sliced = NAMES.iter().filter(|name| {
+        let form = name.form();
+        form.takes.is_some()
+            || matches!(form.gives, Gives::Item(_) | Gives::Fill(_) | Gives::Mirror)
+    });
+    let calls = sliced.map(|&name| {
+        let number = match name {
+            Name::SetTransform | Name::MultiplyTransform | Name::Transform => 256,
+            Name::GetLightAt => 945,
+            _ => 0,
+        };
+        short(&Call::numbered(name, number))
+    });
+    calls.collect()
+}
+
+/// Calls that two refusals stop, on a state whose table is full; then on bytes that are no image.
+fn orders(running: &mut Running) {
+    let states = [Name::SetTransform, Name::MultiplyTransform, Name::Transform];
+    let unknown = states.map(|name| Call::numbered(name, 15));
+    let undefined = Call::numbered(Name::GetLightAt, 2000);
+    let full = [light(2000, 1), enable(2000, 1)];
+    let mut before_length = unknown.to_vec();
+    before_length.extend([undefined, full[0].clone()]);
+    let refreshes = [
+        (1, 0xAA, true),
+        (1, 0, true),
+        (0, 0xAA, true),
+        (1, 0xAA, false),
+    ];
+    let refreshes = refreshes.map(|(has_rhw, light_active_mask, wrong)| {
+        let key = Key {
+            has_rhw,
+            light_active_mask,
+            ..Key::default()
+        };
+        let call = Call::keyed(Name::Refresh, key);
+        if wrong { short(&call) } else { call }
+    });
+    let masked = Call::keyed(
+        Name::FillLights,
+        Key {
+            light_active_mask: 0xAA,
+            ..Key::default()
+        },
+    );
+    let mut calls: Vec<Call> = before_length.iter().map(short).collect();
+    calls.extend(refreshes.clone());
+    calls.extend([masked.clone(), short(&masked)]);
+    calls.extend(short_slices());
+    running.calls(&calls);
+
+    let kept = running.image[image::ZERO];
+    running.put_byte(image::ZERO, 1);
+    running.calls(&calls);
+    running.calls(&before_length);
+    let bits = Call::numbered(Name::MarkFfVsDirty, 64);
+    running.calls(&[full[1].clone(), bits]);
+    running.calls(&short_slices());
+    running.put_byte(image::ZERO, kept);
+}
+
+/// Each call that only reads, those of a number with three.
+fn reads(of: u32) -> Vec<Call> {
+    let reads = NAMES
+        .iter()
+        .filter(|name| !name.form().writes && !name.takes_key());
+    let calls = reads.flat_map(|&name| {
+        match name {
+            Name::Transform => [2 + of % 2, 16 + of % 8, 256 + of].map(Some),
+            _ if name.takes_number() => [of % 8, 7 - of % 8, 8 + of].map(Some),
+            _ => [Some(0), None, None],
         }
-        calls.call(&call);
-    }
-    calls.fill_lights(1, 96);
+        .into_iter()
+        .flatten()
+        .map(move |number| Call::numbered(name, number))
+    });
+    calls.collect()
 }
 
 pub fn calls(sample: &mut Sample) {
-    let mut calls = Calls {
-        sample,
-        world: World::fresh(),
-        image: vec![0; BYTES],
-        item: [0; ITEM],
-    };
+    let mut running = Running::new(sample);
     // Zeros are no image, and the last of these calls makes them one.
     for &name in NAMES.iter().rev() {
-        calls.call(&Call::plain(name));
+        running.call(&Call::plain(name));
     }
-    damaged(&mut calls);
+    damaged(&mut running);
     for name in [Name::ImageFresh, Name::ImageCheck] {
         for length in [0, 1, BYTES - 4, BYTES - 1] {
-            calls.call_on(&Call::plain(name), length);
+            running.call_on(&Call::plain(name), length);
         }
     }
-    for call in cases() {
-        calls.call(&call);
-    }
-    fills(&mut calls);
+    running.calls(&cases());
+    orders(&mut running);
+    draws::packs(&mut running);
+    draws::frames(&mut running);
     for number in 0..LISTS {
-        calls.call(&Call::plain(Name::ImageFresh));
+        running.call(&Call::plain(Name::ImageFresh));
         for call in lists::list(SEED, number) {
-            calls.random(&call);
+            running.random(&call);
         }
+        running.calls(&reads(number as u32));
     }
-}
-
-/// The calls that the sample does not answer with 0 or with one of their refusals.
-pub fn unmet(sample: &Sample) -> String {
-    let mut missing = String::new();
-    let fill = packing::Name::FillLights;
-    let named = NAMES
-        .iter()
-        .map(|&name| (letter(name), name.form().c_name, name.form().refusals))
-        .chain([(FILL_LIGHTS, fill.c_name(), fill.refusals())]);
-    for (letter, c_name, refusals) in named {
-        let met = |wanted: &dyn Fn(&str) -> bool| {
-            let lines = sample.questions.lines().zip(sample.answers.lines());
-            lines
-                .filter(|(question, _)| question.starts_with(letter))
-                .any(|(_, answer)| wanted(answer))
-        };
-        if !met(&|answer| !answer.starts_with("refused")) {
-            let _ = write!(missing, " {c_name} 0");
-        }
-        for refusal in refusals {
-            if !met(&|answer| answer == format!("refused {refusal}")) {
-                let _ = write!(missing, " {c_name} {refusal}");
-            }
-        }
-    }
-    missing
 }

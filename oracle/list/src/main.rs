@@ -3,6 +3,8 @@
 //! image. Our library takes no part.
 
 mod calls;
+mod draws;
+mod running;
 
 use std::fmt::Write;
 use std::path::Path;
@@ -180,7 +182,7 @@ fn sample() -> Result<Sample, String> {
     transposes(&mut sample);
     inverses(&mut sample);
     calls::calls(&mut sample);
-    let missing = calls::unmet(&sample);
+    let missing = running::unmet(&sample);
     if missing.is_empty() {
         Ok(sample)
     } else {

@@ -11,7 +11,7 @@ use Rattle.light_table.specs.declared.entry.OverflowLight.{OverflowLight}
 use Rattle.light_table.specs.declared.overflow.Found.{Found}
 use Rattle.ff_state.specs.declared.lights.LightAnswer.the-variants.{Accepted}
 use Rattle.ff_state.specs.declared.lights.LightChanged.{LightChanged}
-use Rattle.light_table.proofs.Words.{flag-is}
+use Rattle.words.proofs.Words.{flag-is}
 use Rattle.ff_state.proofs.Found.{entry-there}
 
 -- the code's number of a bool

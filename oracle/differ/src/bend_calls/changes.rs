@@ -7,16 +7,24 @@ use cases::model::refusal::{TABLE_FULL, UNKNOWN_BITS, UNKNOWN_STATE, WRONG_LENGT
 use cases::records;
 use mtld3d_types::D3DLIGHT9;
 
-use super::{ACCEPTED, Held};
+use super::{ACCEPTED, Held, past};
 use crate::bends::Bend;
 use crate::host;
 
 const WV: u8 = 1;
 const LIGHTS: u8 = 8;
 
+/// Leaves the bits as they were where the call stored what was there already.
+fn keep_clean(image: &mut [u8], before: &[u8]) {
+    let stored = |image: &[u8]| [&image[..image::DIRTY], &image[image::ZERO..]].concat();
+    if stored(image) == stored(before) {
+        image[image::DIRTY] = before[image::DIRTY];
+    }
+}
+
 pub fn change_transform(bend: Bend, call: &Call, mut held: Held<'_>) -> u32 {
     let readable = held.is_image();
-    let wrong = held.wrong_length(call);
+    let wrong = call.has_wrong_length();
     match bend {
         Bend::SetLengthBeforeImage if wrong => return WRONG_LENGTH,
         Bend::SetLengthBeforeState if wrong && readable => return WRONG_LENGTH,
@@ -29,19 +37,6 @@ pub fn change_transform(bend: Bend, call: &Call, mut held: Held<'_>) -> u32 {
             });
         }
         Bend::SetRefusesLast if readable && call.number == 511 => return UNKNOWN_STATE,
-        Bend::SetEqualKeepsClean => {
-            let (status, after) = held.tried(call, held.lent.given);
-            let dirty = held.lent.image.get(image::DIRTY).copied().unwrap_or(0);
-            let mut same = after.clone();
-            if status == ACCEPTED {
-                same[image::DIRTY] = dirty;
-            }
-            return if status == ACCEPTED && same == held.lent.image {
-                ACCEPTED
-            } else {
-                held.call(call)
-            };
-        }
         _ => {}
     }
     let before = held.lent.image.to_vec();
@@ -57,6 +52,7 @@ pub fn change_transform(bend: Bend, call: &Call, mut held: Held<'_>) -> u32 {
         Bend::ViewLeavesLights if call.number == 2 => {
             image[image::DIRTY] &= !LIGHTS | before[image::DIRTY];
         }
+        Bend::SetEqualKeepsClean | Bend::MultiplyEqualKeepsClean => keep_clean(image, &before),
         Bend::BoneMarksWv if call.number > 256 => image[image::DIRTY] |= WV,
         Bend::SetMarksAll => image[image::DIRTY] = image::ALL_DIRTY,
         Bend::SetForgetsHighest | Bend::MultiplyForgetsHighest => {
@@ -82,10 +78,11 @@ pub fn change_transform(bend: Bend, call: &Call, mut held: Held<'_>) -> u32 {
 }
 
 pub fn set_material(bend: Bend, call: &Call, mut held: Held<'_>) -> u32 {
-    if bend == Bend::MaterialRefusalWrites && held.is_image() && held.wrong_length(call) {
+    if bend == Bend::MaterialRefusalWrites && held.is_image() && call.has_wrong_length() {
         held.lent.image[image::MATERIAL] ^= 1;
         return WRONG_LENGTH;
     }
+    let before = held.lent.image.to_vec();
     let status = held.call(call);
     if status != ACCEPTED {
         return status;
@@ -93,6 +90,11 @@ pub fn set_material(bend: Bend, call: &Call, mut held: Held<'_>) -> u32 {
     let (image, given) = (&mut *held.lent.image, held.lent.given);
     let place = image::MATERIAL..image::LIGHTS;
     match bend {
+        Bend::MaterialEqualKeepsClean => keep_clean(image, &before),
+        Bend::MaterialArgument => {
+            // SAFETY: the driver's item is a buffer of its own that nobody else looks at during the call.
+            unsafe { *given.as_ptr().cast_mut() ^= 1 };
+        }
         Bend::MaterialNan => image[place].copy_from_slice(given),
         Bend::MaterialExchanged => {
             image[place.clone()].copy_from_slice(given);
@@ -124,7 +126,7 @@ pub fn change_light(bend: Bend, call: &Call, mut held: Held<'_>) -> u32 {
     if readable {
         let new = index >= 8 && held.entry(index).is_none();
         match bend {
-            Bend::LightLengthBeforeFull if held.wrong_length(call) => return WRONG_LENGTH,
+            Bend::LightLengthBeforeFull if call.has_wrong_length() => return WRONG_LENGTH,
             Bend::LightFullOfStored if index >= 8 && held.count() == image::ROOM => {
                 return TABLE_FULL;
             }
@@ -182,6 +184,7 @@ pub fn change_light(bend: Bend, call: &Call, mut held: Held<'_>) -> u32 {
                 image[at..at + 4].copy_from_slice(&NAN.to_le_bytes());
             }
         }
+        Bend::LightEqualKeepsClean | Bend::EnableEqualKeepsClean => keep_clean(image, &before),
         Bend::LightLeavesClean => image[image::DIRTY] = before[image::DIRTY],
         Bend::LightRefusesOdd => {
             let at = entry.map_or(image::slot(index as usize & 7), |at| at + 8);
@@ -242,6 +245,7 @@ pub fn dirty(bend: Bend, call: &Call, mut held: Held<'_>) -> u32 {
             held.lent.image[image::DIRTY] = call.number as u8;
         }
         Bend::TakeKeeps if status == ACCEPTED => held.lent.image.copy_from_slice(&before),
+        Bend::TakeGuard if status == ACCEPTED => past(held.lent.image),
         Bend::TakeForgets if status == ACCEPTED => *held.lent.number &= !32,
         Bend::TakeRefusalNumber if status != ACCEPTED => *held.lent.number = 0,
         _ => {}

@@ -11,15 +11,12 @@ use crate::host::{self, Lent};
 
 pub fn read(bend: Bend, call: &Call, mut held: Held<'_>) -> u32 {
     match bend {
-        Bend::TransformLonger if call.lent == 65 => {
+        Bend::TransformLonger if call.lent_length() == 65 => {
             let (first, _) = core::mem::take(&mut held.lent.out).split_at_mut(64);
             held.lent.out = first;
-            return held.call(&Call {
-                lent: 64,
-                ..call.clone()
-            });
+            return held.call(call);
         }
-        Bend::GetLengthBeforeUndefined if held.wrong_length(call) && held.is_image() => {
+        Bend::GetLengthBeforeUndefined if call.has_wrong_length() && held.is_image() => {
             return WRONG_LENGTH;
         }
         _ => {}

@@ -2,7 +2,7 @@
 -- Assumes nothing.
 use mathlib.Core.Path.{refl, sym, ap, _∙_}
 use Rattle.ff_state.specs.Lights.{isLightEnabledAt, flag}
-use Rattle.light_table.proofs.Words.{flag-is}
+use Rattle.words.proofs.Words.{flag-is}
 use Rattle.calls.proofs.Calls.{image-fits, reading-nine, reading-done}
 use borrow.Author.Needs.{needs}
 use Rattle.calls.proofs.lights.is_light_enabled_at.Statement.{statement}

@@ -10,21 +10,21 @@ use Rattle.light_table.proofs.Compaction.{listed-len, listed-front}
 use Rattle.ff_lights.proofs.active.compacted_light_masks.Statement.{statement}
 use Rattle.ff_lights.proofs.active.compacted_light_masks.Tie as tie
 
-resolve-active-lights-requires : tie.Need-resolve-active-lights-requires
-resolve-active-lights-requires c κs = search needs
+first-active-requires : tie.Need-first-active-requires
+first-active-requires c κs = search needs
 
 -- the list has at most eight lights, which stand in front
-few : (c : tie.After-resolve-active-lights) → c .resolve-active-lights .result .len ≤ 8
+few : (c : tie.After-first-active) → c .first-active .result .len ≤ 8
 unfolding resolveActiveLights
-few c = subst (λ (a : ActiveLights). a .len ≤ 8) (sym (c .resolve-active-lights .ensures)) (listed-len (activeLights (c .before .args .s)))
+few c = subst (λ (a : ActiveLights). a .len ≤ 8) (sym (c .first-active .ensures)) (listed-len (activeLights (c .before .args .s)))
 
-front : (c : tie.After-resolve-active-lights) → take (c .resolve-active-lights .result .len) (c .resolve-active-lights .result .lights) ≡ take 8 (activeLights (c .before .args .s))
+front : (c : tie.After-first-active) → take (c .first-active .result .len) (c .first-active .result .lights) ≡ take 8 (activeLights (c .before .args .s))
 unfolding resolveActiveLights
-front c = ap (λ (a : ActiveLights). take (a .len) (a .lights)) (c .resolve-active-lights .ensures) ∙ listed-front (activeLights (c .before .args .s))
+front c = ap (λ (a : ActiveLights). take (a .len) (a .lights)) (c .first-active .ensures) ∙ listed-front (activeLights (c .before .args .s))
 
-counted : (c : tie.After-resolve-active-lights) → c .resolve-active-lights .result .len ≡ length (take 8 (activeLights (c .before .args .s)))
+counted : (c : tie.After-first-active) → c .first-active .result .len ≡ length (take 8 (activeLights (c .before .args .s)))
 unfolding resolveActiveLights listed
-counted c = ap (λ (a : ActiveLights). a .len) (c .resolve-active-lights .ensures)
+counted c = ap (λ (a : ActiveLights). a .len) (c .first-active .ensures)
 
 low-bits-requires : tie.Need-low-bits-requires
 low-bits-requires c κs = few c
@@ -48,7 +48,7 @@ pub compacted-light-masks-spec : {M : Type 1} → statement M
 compacted-light-masks-spec =
     tie.close
     (tie.spec
-    resolve-active-lights-requires
+    first-active-requires
     low-bits-requires
     kind-mask-requires
     kind-mask-requires-2

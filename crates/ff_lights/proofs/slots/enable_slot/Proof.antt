@@ -3,7 +3,7 @@
 use Prim.Native.Nat.{ℕ}
 use mathlib.Core.Path.{ap, _∙_}
 use borrow.Author.Needs.{needs}
-use Rattle.light_table.specs.Bits.{withBit}
+use Rattle.words.specs.Bits.{withBit}
 use Rattle.ff_state.specs.State.{withLightEnabled}
 use Rattle.ff_state.specs.Slots.{enableSlot}
 use Rattle.ff_state.specs.declared.state.FfState.{FfState}

@@ -7,7 +7,7 @@ use mathlib.Core.Bool.{_&&_}
 use Rattle.light_table.specs.Kinds.{contributes}
 use Rattle.d3d9_types.specs.Light.{defaultLight}
 use Rattle.d3d9_types.specs.declared.light.D3DLIGHT9.{D3DLIGHT9}
-use Rattle.light_table.specs.Bits.{hasBit}
+use Rattle.words.specs.Bits.{hasBit}
 use Rattle.light_table.proofs.Lists.{getD-default}
 use Rattle.image_parts.specs.Masks.{setMask, slotSet}
 use Rattle.image_parts.proofs.Mask.{Masked, begins, goes-on, ends}

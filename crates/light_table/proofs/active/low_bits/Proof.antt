@@ -2,7 +2,7 @@
 use native.Mathlib.Omega.{arith}
 use lib.Pow.{pow-pos, pow-mono}
 use Rattle.light_table.specs.Active.{lowBits}
-use Rattle.light_table.proofs.Words.{one-shl}
+use Rattle.words.proofs.Words.{one-shl}
 use borrow.Author.Needs.{needs}
 use Rattle.light_table.proofs.active.low_bits.Statement.{statement}
 use Rattle.light_table.proofs.active.low_bits.Tie as tie

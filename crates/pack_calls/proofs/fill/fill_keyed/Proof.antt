@@ -1,8 +1,8 @@
 -- `pack_calls::fill::fill_keyed` meets its contract. Each test decides the code in its order; no section has more floats than the mirror (`fits-mirror`).
 -- Assumes nothing.
-use Prim.Native.Nat.{ℕ, _*_}
+use Prim.Native.Nat.{ℕ, _*_, _<_}
 use native.Mathlib.Omega.{arith}
-use mathlib.Core.Path.{sym, ap, _∙_}
+use mathlib.Core.Path.{sym, ap, _∙_, _≡_}
 use denote.Ref.{now}
 use Rattle.calls.specs.Answer.{answered}
 use Rattle.calls.proofs.Calls.{image-fits, reading-nine, reading-own}
@@ -11,6 +11,21 @@ use Rattle.pack_calls.proofs.Fills.{fill-wrong, fill-fits, front, front
 use borrow.Author.Needs.{needs}
 use Rattle.pack_calls.proofs.fill.fill_keyed.Statement.{statement}
 use Rattle.pack_calls.proofs.fill.fill_keyed.Tie as tie
+use Rattle.sections.specs.Counts.{sectionRows}
+use Rattle.image_parts.specs.Reasons.{refused}
+use mathlib.Core.Bool.{false}
+
+abbrev begin : tie.After-section-rows → tie.Start
+begin c = c .before .before .before .before .before
+
+rows-is : (c : tie.After-section-rows) → c .section-rows .result ≡ sectionRows (begin c .args .section) (begin c .args .key) 0
+rows-is c = c .section-rows .ensures
+
+byte : (c : tie.After-section-rows) → begin c .args .key .«vertex_blend_count» < 256
+byte c = begin c .good .1 .1 .0 .1 .1 .1 .1 .1 .1 .1 .1 .0 .1
+
+read : (c : tie.After-section-rows) → refused (begin c .args .image .now) ≡ false
+read c = sym (c .before .before .image-refused .ensures) ∙ c .before .if1 .left
 
 image-refused-requires : tie.Need-image-refused-requires
 image-refused-requires c κs = search needs
@@ -19,8 +34,8 @@ returns : tie.Need-returns
 returns c =
     reading-nine _ _ _ _ _ (sym (c .before .image-refused .ensures) ∙ c .if1 .taken)
 
-section-shape-requires : tie.Need-section-shape-requires
-section-shape-requires c κs = search needs
+section-rows-requires : tie.Need-section-rows-requires
+section-rows-requires c κs = search needs
 
 cast-n : tie.Need-cast-n
 cast-n c = search needs
@@ -33,40 +48,50 @@ mul-if2 c = search needs
 
 returns-2 : tie.Need-returns-2
 returns-2 c =
-    reading-own _ _ _ _ _ (sym (c .before .before .before .before .image-refused .ensures) ∙ c .before .before .before .if1 .left) (fill-wrong _ _ (c .before .before .section-shape .ensures) _ _ (c .if2 .taken))
+    let table = c .before in
+    let a = begin table .args in
+    reading-own _ _ _ _ _ (read table) (fill-wrong (a .section) (a .key) (rows-is table) _ _ (c .if2 .taken))
 
 state-of-requires : tie.Need-state-of-requires
-state-of-requires c κs =
-    image-fits _ (sym (c .before .before .before .before .image-refused .ensures) ∙ c .before .before .before .if1 .left)
+state-of-requires c κs = image-fits _ (read (c .before))
 
 mirror-floats-requires : tie.Need-mirror-floats-requires
 mirror-floats-requires c κs = search needs
 
 array-borrow-prefix-floats : tie.Need-array-borrow-prefix-floats
 array-borrow-prefix-floats c =
-    omega (arith, fill-fits _ _ (c .before .before .before .before .section-shape .ensures) (c .before .before .before .before .before .before .before .before .before .good .1 .1 .0 .1 .1 .1 .1 .1 .1 .1 .1 .0 .1))
+    let table = c .before .before .before in
+    let a = begin table .args in
+    omega (arith, fill-fits (a .section) (a .key) (rows-is table) (byte table))
 
 slice-aggregate-fill-bytes : tie.Need-slice-aggregate-fill-bytes
 slice-aggregate-fill-bytes c =
-    sym (front _ _ (c .before .before .before .before .before .section-shape .ensures) (c .before .before .before .before .before .before .before .before .before .before .good .1 .1 .0 .1 .1 .1 .1 .1 .1 .1 .1 .0 .1) _ (c .before .mirror-floats .ensures))
+    let table = c .before .before .before .before in
+    let a = begin table .args in
+    sym (front (a .section) (a .key) (rows-is table) (byte table) _ (c .before .mirror-floats .ensures))
 
 fill-bytes-requires : tie.Need-fill-bytes-requires
 fill-bytes-requires c κs =
-    let is = c .before .before .before .before .before .before .section-shape .ensures in
-    let byte = c .before .before .before .before .before .before .before .before .before .before .before .good .1 .1 .0 .1 .1 .1 .1 .1 .1 .1 .1 .0 .1 in
-    let long = c .before .before .mirror-floats .ensures in
-    (front-rows _ _ is byte _ long, c .before .before .before .before .if2 .left ∙ ap (λ (n : ℕ). 4 * n) (sym (front _ _ is byte _ long)))
+    let made = c .before .before in
+    let table = made .before .before .before in
+    let a = begin table .args in
+    let long = made .mirror-floats .ensures in (
+      front-rows (a .section) (a .key) (rows-is table) (byte table) _ long,
+      made .before .before .if2 .left ∙ ap (λ (n : ℕ). 4 * n) (sym (front (a .section) (a .key) (rows-is table) (byte table) _ long)),
+    )
 
 same-length : tie.Need-same-length
 same-length c = search needs
 
 returns-3 : tie.Need-returns-3
 returns-3 c =
-    let h = c .before .before .before .before .before .before .before .before .before .before .section-shape .ensures in
-    let a = c .before .before .before .before .before .before .before .before .before .before .before .before .before .before .before .args in
-    c .before .before .before .fill-bytes .ensures
-    ∙ ap (λ s. answered (maskNumber (a .section) (a .key) s) (fillBytes (a .section) (a .key) s) (now (a .dst))) (c .before .before .before .before .before .before .before .state-of .ensures)
-    ∙ fill-done _ _ h _ _ (sym (c .before .before .before .before .before .before .before .before .before .before .before .before .image-refused .ensures) ∙ c .before .before .before .before .before .before .before .before .before .before .before .if1 .left) (c .before .before .before .before .before .before .before .before .if2 .left)
+    let filled = c .before .before .before in
+    let state = filled .before .before .before .before in
+    let table = state .before .before in
+    let a = begin table .args in
+    filled .fill-bytes .ensures
+    ∙ ap (λ s. answered (maskNumber (a .section) (a .key) s) (fillBytes (a .section) (a .key) s) (now (a .dst))) (state .state-of .ensures)
+    ∙ fill-done (a .section) (a .key) (rows-is table) _ _ (read table) (state .before .if2 .left)
 
 pub fill-keyed-spec : {M : Type 1} → statement M
 fill-keyed-spec =
@@ -74,7 +99,7 @@ fill-keyed-spec =
     (tie.spec
     image-refused-requires
     returns
-    section-shape-requires
+    section-rows-requires
     cast-n
     mul-n
     mul-if2

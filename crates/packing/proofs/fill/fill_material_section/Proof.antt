@@ -1,8 +1,7 @@
 -- `packing::fill::fill_material_section` meets its contract. Another length leaves by the first return. Else the rows that are written fill the destination.
 -- Assumes nothing.
-use Rattle.ff_state.specs.declared.sections.Section.the-variants.{Material}
+use Rattle.sections.specs.declared.sections.Section.the-variants.{Material}
 use mathlib.Core.Path.{refl, sym, ap, _∙_}
-use Rattle.sections.specs.Shape.{sectionShape}
 use Rattle.packing.specs.Inputs.{packedRows, maskAccepted}
 use Rattle.packing.proofs.Outcomes.{Passed, failed, passed}
 use Prim.Native.Nat.{_*_}
@@ -22,7 +21,7 @@ returns : tie.Need-returns
 returns c = failed Material _ _ _ (c .before .is-length .ensures) (c .if1 .taken)
 
 write-material-requires : tie.Need-write-material-requires
-unfolding sectionShape materialCount
+unfolding materialCount
 write-material-requires c κs =
     let a = c .before .before .before .before .args in
     ok (c .before) .long ∙ ap (λ n. 4 * n) (sym (material-rows (a .key .«lighting_enabled») (a .key .«specular_enable») (a .s .material)))

@@ -1,9 +1,8 @@
 -- `packing::fill::fill_palette_section` meets its contract. Another length leaves by the first return. Else the rows that are written fill the destination.
 -- Assumes nothing.
-use Rattle.ff_state.specs.declared.sections.Section.the-variants.{Palette}
+use Rattle.sections.specs.declared.sections.Section.the-variants.{Palette}
 use native.Mathlib.Omega.{arith}
 use mathlib.Core.Path.{refl, ap, _∙_}
-use Rattle.sections.specs.Shape.{sectionShape}
 use Rattle.packing.specs.Inputs.{packedRows, maskAccepted}
 use Rattle.packing.proofs.Outcomes.{Passed, failed, passed}
 use lib.ListN.{take}
@@ -31,7 +30,7 @@ cast-n : tie.Need-cast-n
 cast-n c = search needs
 
 write-palette-requires : tie.Need-write-palette-requires
-unfolding sectionShape paletteCount
+unfolding paletteCount
 write-palette-requires c κs =
     let counted = c .before in
     let test = counted .before .before in

@@ -1,9 +1,8 @@
 -- `packing::fill::fill_proj_section` meets its contract. Another length leaves by the first return. Else the rows that are written fill the destination.
 -- Assumes nothing.
-use Rattle.ff_state.specs.declared.sections.Section.the-variants.{Proj}
+use Rattle.sections.specs.declared.sections.Section.the-variants.{Proj}
 use native.Mathlib.Omega.{arith}
 use mathlib.Core.Path.{refl, ap, _∙_}
-use Rattle.sections.specs.Shape.{sectionShape}
 use Rattle.packing.specs.Inputs.{packedRows, maskAccepted}
 use Rattle.packing.proofs.Outcomes.{Passed, failed, passed}
 use lib.Seq.{sets}
@@ -28,14 +27,13 @@ transpose-requires : tie.Need-transpose-requires
 transpose-requires c κs = search needs
 
 write-matrix-requires : tie.Need-write-matrix-requires
-unfolding sectionShape
 write-matrix-requires c κs = omega (arith, ok (c .before .before) .long)
 
 same-length : tie.Need-same-length
 same-length c = search needs
 
 returns-2 : tie.Need-returns-2
-unfolding packedRows maskAccepted projectionRows sectionShape floats
+unfolding packedRows maskAccepted projectionRows floats
 returns-2 c =
     let wrote = c .before .before in
     let test = wrote .before .before .before in

@@ -1,9 +1,8 @@
 -- `packing::fill::fill_tt_section` meets its contract. Another length leaves by the first return. Else the destination is empty, and so are the rows.
 -- Assumes nothing.
-use Rattle.ff_state.specs.declared.sections.Section.the-variants.{Tt}
+use Rattle.sections.specs.declared.sections.Section.the-variants.{Tt}
 use native.Mathlib.Omega.{arith}
 use mathlib.Core.Path.{refl}
-use Rattle.sections.specs.Shape.{sectionShape}
 use Rattle.packing.specs.Inputs.{packedRows, maskAccepted}
 use Rattle.packing.proofs.Outcomes.{Passed, failed, passed}
 use Rattle.rows.specs.Rows.{floats}
@@ -24,7 +23,7 @@ returns : tie.Need-returns
 returns c = failed Tt _ _ _ (c .before .is-length .ensures) (c .if1 .taken)
 
 returns-2 : tie.Need-returns-2
-unfolding packedRows maskAccepted floats sectionShape textureCount
+unfolding packedRows maskAccepted floats textureCount
 returns-2 c = ok c .packs refl _ (empty _ (omega (arith, ok c .long, places-none)))
 
 pub fill-tt-section-spec : {M : Type 1} → statement M

@@ -10,11 +10,10 @@ use Rattle.light_table.specs.Active.{listed}
 use Rattle.light_table.specs.declared.active.ActiveLights.{ActiveLights}
 use Rattle.light_table.proofs.Compaction.{listed-len, listed-front}
 use Rattle.ff_state.specs.Active.{activeLights, resolveActiveLights}
-use Rattle.ff_state.specs.declared.sections.Section.the-variants.{Lights}
+use Rattle.sections.specs.declared.sections.Section.the-variants.{Lights}
 use Rattle.rows.specs.Rows.{floats}
 use Rattle.light_rows.specs.Light.{lightsRows}
 use Rattle.sections.specs.Counts.{places, lightCount}
-use Rattle.sections.specs.Shape.{sectionShape}
 use Rattle.packing.proofs.Lengths.{places-low}
 use Rattle.packing.proofs.Outcomes.{Passed, failed, passed}
 use Rattle.packing.proofs.LightMask.{none-accepted, none-packed, its-accepted, another-refused, some-packed}
@@ -53,7 +52,6 @@ returns : tie.Need-returns
 returns c = failed Lights _ _ _ (c .before .is-length .ensures) (c .if1 .taken)
 
 returns-2 : tie.Need-returns-2
-unfolding sectionShape
 returns-2 c =
     let a = c .before .before .before .before .args in
     ok (c .before) .packs (none-accepted (a .s) (a .key) (c .if2 .taken)) _ (none-packed (a .s) (a .key) _ (ok (c .before) .long) (c .if2 .taken))
@@ -73,7 +71,6 @@ returns-3 c =
     (another-refused (a .s) (a .key) (list .resolve-active-lights .result .len) (list .before .if2 .left) (counted list) (λ e. c .if3 .taken (e ∙ sym (c .before .low-bits .ensures))))
 
 write-lights-requires : tie.Need-write-lights-requires
-unfolding sectionShape
 write-lights-requires c κs =
     let masked = c .before .before in
     let list = masked .before .before in

@@ -1,10 +1,13 @@
--- `refresh::answer::mask_accepted` meets its contract: a mask of 0 is accepted, and any other is compared with the compacted one.
+-- `refresh::answer::mask_accepted` meets its contract: a mask of 0 is accepted, and any other is compared with that of the lights that are packed.
 -- Assumes nothing.
-use mathlib.Core.Path.{ap}
+use Prim.Native.Nat.{_≤_}
+use mathlib.Core.Path.{sym, ap, subst, _∙_}
 use lib.Dec.{eqb}
 use borrow.Author.Tests.{eq-eqb, ne-eqb}
-use Rattle.light_table.specs.declared.active.LightMasks.{LightMasks}
-use Rattle.ff_state.specs.Active.{compactedLightMasks}
+use Rattle.light_table.specs.Active.{listed, lowBits, masksOf}
+use Rattle.light_table.specs.declared.active.ActiveLights.{ActiveLights}
+use Rattle.light_table.proofs.Compaction.{listed-len}
+use Rattle.ff_state.specs.Active.{activeLights, resolveActiveLights}
 use Rattle.packing.specs.Inputs.{maskAccepted}
 use borrow.Author.Needs.{needs}
 use Rattle.refresh.proofs.answer.mask_accepted.Statement.{statement}
@@ -14,14 +17,20 @@ returns : tie.Need-returns
 unfolding maskAccepted
 returns c = rw (eq-eqb _ _ (c .if1 .taken))
 
-compacted-light-masks-requires : tie.Need-compacted-light-masks-requires
-compacted-light-masks-requires c κs = search needs
+resolve-active-lights-requires : tie.Need-resolve-active-lights-requires
+resolve-active-lights-requires c κs = search needs
+
+low-bits-requires : tie.Need-low-bits-requires
+unfolding resolveActiveLights
+low-bits-requires c κs = subst (λ (l : ActiveLights). l .len ≤ 8) (sym (c .resolve-active-lights .ensures)) (listed-len (activeLights (c .before .before .args .s)))
 
 returns-2 : tie.Need-returns-2
-unfolding maskAccepted compactedLightMasks
+unfolding maskAccepted masksOf resolveActiveLights listed
 returns-2 c =
-    let a = c .before .before .before .args in
-    rw (ne-eqb _ _ (c .before .before .if1 .left)) (ap (λ (m : LightMasks). eqb (a .key .«light_active_mask») (m .active)) (c .before .compacted-light-masks .ensures))
+    let list = c .before in
+    let a = list .before .before .args in
+    rw (ne-eqb _ _ (list .before .if1 .left))
+    (ap (eqb (a .key .«light_active_mask»)) (c .low-bits .ensures ∙ ap (λ (l : ActiveLights). lowBits (l .len)) (list .resolve-active-lights .ensures)))
 
 pub mask-accepted-spec : {M : Type 1} → statement M
-mask-accepted-spec = tie.close (tie.spec returns compacted-light-masks-requires returns-2)
+mask-accepted-spec = tie.close (tie.spec returns resolve-active-lights-requires low-bits-requires returns-2)

@@ -4,8 +4,8 @@ use Prim.Native.Nat.{ℕ, _/_, _%_, _^_, _<_}
 use mathlib.Core.Path.{_≡_, sym, ap, subst, _∙_}
 use lib.Dec.{eqb}
 use lib.Pow.{pow-pos}
-use Rattle.light_table.specs.Bits.{hasBit}
-use Rattle.ff_state.specs.Sections.{bitPlace}
+use Rattle.words.specs.Bits.{hasBit}
+use Rattle.sections.specs.Sections.{bitPlace}
 use Rattle.ff_state.proofs.Frame.{bit-place}
 use borrow.Author.Needs.{needs}
 use Rattle.refresh.proofs.written.has_section.Statement.{statement}

@@ -4,9 +4,8 @@ use Prim.Native.Nat.{ℕ, _+_, _-_, _*_}
 use native.Mathlib.Omega.{arith}
 use mathlib.Core.Path.{_≡_, sym, ap, _∙_}
 use lib.ListN.{length-map}
-use Rattle.sections.specs.Key.{noTextures}
-use Rattle.sections.specs.Shape.{firstRow, sectionRows}
-use Rattle.sections.specs.declared.shape.SectionShape.{SectionShape}
+use Rattle.sections.specs.Counts.{sectionRows}
+use Rattle.sections.specs.Sections.{firstRow}
 use Rattle.sections.proofs.Tiles.{fits-mirror}
 use Rattle.refresh.specs.Written.{writtenSection}
 use Rattle.refresh.proofs.Packed.{Ready, rows-length, packs}
@@ -14,6 +13,7 @@ use Rattle.refresh.proofs.Parts.{part-length, put-back}
 use borrow.Author.Needs.{needs}
 use Rattle.refresh.proofs.written.write_section.Statement.{statement}
 use Rattle.refresh.proofs.written.write_section.Tie as tie
+use Rattle.packing.specs.Pack.{stateCount}
 
 ready : (c : tie.Start) → Ready (c .args .s) (c .args .key)
 ready c =
@@ -23,17 +23,23 @@ ready c =
       mask = c .pre .1;
     }
 
-first-is : (c : tie.After-section-shape) → c .section-shape .result .«first_row» ≡ firstRow (c .before .before .before .before .args .section) (c .before .before .before .before .args .key) noTextures
-first-is c = ap (λ (r : SectionShape). r .«first_row») (c .section-shape .ensures)
+abbrev begin : tie.After-section-rows → tie.Start
+begin c = c .before .before .before .before .before
 
-rows-is : (c : tie.After-section-shape) → c .section-shape .result .rows ≡ sectionRows (c .before .before .before .before .args .section) (c .before .before .before .before .args .key) noTextures
-rows-is c = ap (λ (r : SectionShape). r .rows) (c .section-shape .ensures)
+first-is : (c : tie.After-section-rows) → c .before .first-row .result ≡ firstRow (begin c .args .section)
+first-is c = c .before .first-row .ensures
+
+rows-is : (c : tie.After-section-rows) → c .section-rows .result ≡ sectionRows (begin c .args .section) (begin c .args .key) 0
+rows-is c = c .section-rows .ensures
 
 has-section-requires : tie.Need-has-section-requires
 has-section-requires c κs = search needs
 
-section-shape-requires : tie.Need-section-shape-requires
-section-shape-requires c κs = search needs
+first-row-requires : tie.Need-first-row-requires
+first-row-requires c κs = search needs
+
+section-rows-requires : tie.Need-section-rows-requires
+section-rows-requires c κs = search needs
 
 cast-first : tie.Need-cast-first
 cast-first c = search needs
@@ -61,8 +67,9 @@ part-pack-section-start c = search needs
 
 part-pack-section-end : tie.Need-part-pack-section-end
 part-pack-section-end c =
-    let start = c .before .before .before .before .before .before in
-    omega (arith, first-is (c .before .before), rows-is (c .before .before), start .pre .0, fits-mirror (start .args .key) noTextures (ready start .count) (start .args .section))
+    let table = c in
+    let start = begin table in
+    omega (arith, first-is table, rows-is table, start .pre .0, fits-mirror (start .args .key) 0 (ready start .count) (start .args .section))
 
 pack-section-requires : tie.Need-pack-section-requires
 pack-section-requires c κs = search needs
@@ -73,16 +80,16 @@ same-length c = search needs
 returns : tie.Need-returns
 unfolding writtenSection
 returns c =
-    let shape = c .before .before .before .before .before .before in
-    let start = shape .before .before .before .before in
+    let table = c .before .before .before .before in
+    let start = begin table in
     let a = start .args in
-    let f : ℕ = 4 * shape .section-shape .result .«first_row» in
-    let n : ℕ = f + 4 * shape .section-shape .result .rows - f in
-    let whole : n ≡ 4 * sectionRows (a .section) (a .key) noTextures = omega (arith, rows-is shape) in
-    let room = fits-mirror (a .key) noTextures (ready start .count) (a .section) in
-    let long = part-length f n (a .mirror .now) (omega (arith, first-is shape, rows-is shape, start .pre .0, room)) ∙ whole in
-    rw (sym (shape .before .before .has-section .ensures) ∙ shape .before .if1 .taken)
-    (put-back (a .mirror .now) (ap (λ (r : ℕ). 4 * r) (first-is shape))
+    let f : ℕ = 4 * table .before .first-row .result in
+    let n : ℕ = f + 4 * table .section-rows .result - f in
+    let whole : n ≡ 4 * stateCount (a .section) (a .s) (a .key) = omega (arith, rows-is table) in
+    let room = fits-mirror (a .key) 0 (ready start .count) (a .section) in
+    let long = part-length f n (a .mirror .now) (omega (arith, first-is table, rows-is table, start .pre .0, room)) ∙ whole in
+    rw (sym (table .before .before .before .has-section .ensures) ∙ table .before .before .if1 .taken)
+    (put-back (a .mirror .now) (ap (λ (r : ℕ). 4 * r) (first-is table))
     (packs (ready start) (a .section) _ _ _ long (c .before .before .pack-section .ensures))
     (rows-length (ready start) (a .section) ∙ sym whole))
 
@@ -95,7 +102,8 @@ write-section-spec =
     tie.close
     (tie.spec
     has-section-requires
-    section-shape-requires
+    first-row-requires
+    section-rows-requires
     cast-first
     mul-first
     cast-end

@@ -6,7 +6,7 @@ use mathlib.Core.Bool.{false}
 use mathlib.Core.List.{List}
 use denote.Ref.{now}
 use Rattle.ff_state.specs.Dirty.{takeFfVsDirty}
-use Rattle.ff_state.specs.Sections.{sections}
+use Rattle.sections.specs.Sections.{sections}
 use Rattle.ff_state.specs.declared.dirty.Taken.{Taken}
 use Rattle.ff_state.specs.declared.state.FfState.{FfState}
 use Rattle.image.specs.Format.{imageBytes}

@@ -6,9 +6,8 @@ use mathlib.Core.Path.{_≡_, sym, ap, _∙_}
 use lib.ListN.{length, length-map}
 use Rattle.codec.specs.Float.{floatBytes}
 use Rattle.image.proofs.Items.{length-listBytes}
-use Rattle.sections.specs.Key.{noTextures}
-use Rattle.sections.specs.Shape.{firstRow, sectionRows}
-use Rattle.sections.specs.declared.shape.SectionShape.{SectionShape}
+use Rattle.sections.specs.Counts.{sectionRows}
+use Rattle.sections.specs.Sections.{firstRow}
 use Rattle.sections.proofs.Tiles.{fits-mirror}
 use Rattle.refresh.proofs.Packed.{Ready, rows-length, accepted}
 use Rattle.refresh_calls.specs.Written.{writtenSectionBytes}
@@ -28,20 +27,23 @@ ready c =
       mask = c .pre .1;
     }
 
-start : tie.After-section-shape → tie.Start
-start c = c .before .before .before .before
+abbrev start : tie.After-section-rows → tie.Start
+start c = c .before .before .before .before .before
 
-first-is : (c : tie.After-section-shape) → c .section-shape .result .«first_row» ≡ firstRow (c .before .before .before .before .args .section) (c .before .before .before .before .args .key) noTextures
-first-is c = ap (λ (r : SectionShape). r .«first_row») (c .section-shape .ensures)
+first-is : (c : tie.After-section-rows) → c .before .first-row .result ≡ firstRow (start c .args .section)
+first-is c = c .before .first-row .ensures
 
-rows-is : (c : tie.After-section-shape) → c .section-shape .result .rows ≡ sectionRows (c .before .before .before .before .args .section) (c .before .before .before .before .args .key) noTextures
-rows-is c = ap (λ (r : SectionShape). r .rows) (c .section-shape .ensures)
+rows-is : (c : tie.After-section-rows) → c .section-rows .result ≡ sectionRows (start c .args .section) (start c .args .key) 0
+rows-is c = c .section-rows .ensures
 
 has-section-requires : tie.Need-has-section-requires
 has-section-requires c κs = search needs
 
-section-shape-requires : tie.Need-section-shape-requires
-section-shape-requires c κs = search needs
+first-row-requires : tie.Need-first-row-requires
+first-row-requires c κs = search needs
+
+section-rows-requires : tie.Need-section-rows-requires
+section-rows-requires c κs = search needs
 
 cast-n : tie.Need-cast-n
 cast-n c = search needs
@@ -66,13 +68,15 @@ mirror-floats-requires c κs = search needs
 
 array-borrow-prefix-floats : tie.Need-array-borrow-prefix-floats
 array-borrow-prefix-floats c =
-    let shape = c .before .before .before in
-    omega (arith, fill-fits _ _ (shape .section-shape .ensures) (ready (shape .before .before .before .before) .count))
+    let table = c .before in
+    let a = start table .args in
+    omega (arith, fill-fits (a .section) (a .key) (rows-is table) (ready (start table) .count))
 
 slice-aggregate-fill-bytes : tie.Need-slice-aggregate-fill-bytes
 slice-aggregate-fill-bytes c =
-    let shape = c .before .before .before .before in
-    sym (front _ _ (shape .section-shape .ensures) (ready (shape .before .before .before .before) .count) _ (c .before .mirror-floats .ensures))
+    let table = c .before .before in
+    let a = start table .args in
+    sym (front (a .section) (a .key) (rows-is table) (ready (start table) .count) _ (c .before .mirror-floats .ensures))
 
 sub-fill-bytes : tie.Need-sub-fill-bytes
 sub-fill-bytes c = search needs
@@ -82,23 +86,23 @@ part-fill-bytes-start c = search needs
 
 part-fill-bytes-end : tie.Need-part-fill-bytes-end
 part-fill-bytes-end c =
-    let shape = c .before .before .before .before in
-    let begin = shape .before .before .before .before in
-    omega (arith, first-is shape, rows-is shape, begin .pre .0, fits-mirror (begin .args .key) noTextures (ready begin .count) (begin .args .section))
+    let table = c .before .before in
+    let begin = start table in
+    omega (arith, first-is table, rows-is table, begin .pre .0, fits-mirror (begin .args .key) 0 (ready begin .count) (begin .args .section))
 
 fill-bytes-requires : tie.Need-fill-bytes-requires
 fill-bytes-requires c κs =
-    let shape = c .before .before .before .before .before in
-    let begin = shape .before .before .before .before in
-    let is = shape .section-shape .ensures in
+    let table = c .before .before .before in
+    let begin = start table in
+    let a = begin .args in
     let byte = ready begin .count in
     let long = c .before .before .mirror-floats .ensures in
-    let f : ℕ = 16 * shape .section-shape .result .«first_row» in
-    let n : ℕ = f + 4 * (4 * shape .section-shape .result .rows) - f in
-    let whole : n ≡ 4 * (4 * shape .section-shape .result .rows) = omega arith in
-    let room = fits-mirror (begin .args .key) noTextures byte (begin .args .section) in (
-      front-rows _ _ is byte _ long,
-      part-length f n (begin .args .mirror .now) (omega (arith, first-is shape, rows-is shape, begin .pre .0, room)) ∙ whole ∙ ap (λ (x : ℕ). 4 * x) (sym (front _ _ is byte _ long)),
+    let f : ℕ = 16 * table .before .first-row .result in
+    let n : ℕ = f + 4 * (4 * table .section-rows .result) - f in
+    let whole : n ≡ 4 * (4 * table .section-rows .result) = omega arith in
+    let room = fits-mirror (a .key) 0 byte (a .section) in (
+      front-rows (a .section) (a .key) (rows-is table) byte _ long,
+      part-length f n (a .mirror .now) (omega (arith, first-is table, rows-is table, begin .pre .0, room)) ∙ whole ∙ ap (λ (x : ℕ). 4 * x) (sym (front (a .section) (a .key) (rows-is table) byte _ long)),
     )
 
 same-length : tie.Need-same-length
@@ -107,19 +111,20 @@ same-length c = search needs
 returns : tie.Need-returns
 unfolding writtenSectionBytes
 returns c =
-    let shape = c .before .before .before .before .before .before .before .before .before in
-    let begin = shape .before .before .before .before in
+    let filled-at = c .before .before .before in
+    let table = filled-at .before .before .before .before in
+    let begin = start table in
     let a = begin .args in
     let k : Ready (a .s) (a .key) = ready begin in
-    let f : ℕ = 16 * shape .section-shape .result .«first_row» in
-    let n : ℕ = f + 4 * (4 * shape .section-shape .result .rows) - f in
-    let whole : n ≡ 16 * sectionRows (a .section) (a .key) noTextures = omega (arith, rows-is shape) in
+    let f : ℕ = 16 * table .before .first-row .result in
+    let n : ℕ = f + 4 * (4 * table .section-rows .result) - f in
+    let whole : n ≡ 16 * sectionRows (a .section) (a .key) 0 = omega (arith, rows-is table) in
     let wide : length (fillBytes (a .section) (a .key) (a .s)) ≡ n =
     length-listBytes floatBytes 4 length-floatBytes _ ∙ ap (λ (x : ℕ). 4 * x) (rows-length k (a .section)) ∙ omega (arith, whole) in
-    let place : f ≡ 4 * (4 * firstRow (a .section) (a .key) noTextures) = omega (arith, first-is shape) in
-    rw (sym (shape .before .before .has-section .ensures) ∙ shape .before .if1 .taken)
+    let place : f ≡ 4 * (4 * firstRow (a .section)) = omega (arith, first-is table) in
+    rw (sym (table .before .before .before .has-section .ensures) ∙ table .before .before .if1 .taken)
     (put-back (a .mirror .now) place
-    (filled _ _ _ _ _ (rw (accepted k (a .section))) (c .before .before .before .fill-bytes .ensures))
+    (filled _ _ _ _ _ (rw (accepted k (a .section))) (filled-at .fill-bytes .ensures))
     wide)
 
 returns-2 : tie.Need-returns-2
@@ -131,7 +136,8 @@ write-section-bytes-spec =
     tie.close
     (tie.spec
     has-section-requires
-    section-shape-requires
+    first-row-requires
+    section-rows-requires
     cast-n
     mul-n
     cast-first

@@ -2,7 +2,7 @@
 use mathlib.Core.Path.{ap}
 use borrow.Author.Needs.{needs}
 use borrow.Author.Tests.{le-leb, lt-leb}
-use Rattle.ff_state.specs.Sections.{allBits}
+use Rattle.sections.specs.Sections.{allBits}
 use Rattle.ff_state.specs.Dirty.{markFfVsDirty}
 use Rattle.ff_state.specs.declared.state.FfState.{FfState}
 use Rattle.ff_state.specs.declared.dirty.MarkAnswer.the-variants.{Accepted}

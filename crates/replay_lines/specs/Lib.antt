@@ -1,3 +1,0 @@
-pub mod Hex
-pub mod Lines
-pub mod Text

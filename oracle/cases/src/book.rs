@@ -1,0 +1,86 @@
+//! Document 01's plain book, fed with the calls' arguments only, and the rows in which a mirror differs from its packing.
+
+use std::collections::BTreeMap;
+
+use mtld3d_types::{D3DLIGHT9, D3DMATERIAL9, D3DMATRIX};
+use original::ff_state::FfState;
+
+use crate::call::{Call, Name};
+use crate::image::{self, SLOTS, number16, number32};
+use crate::key::Key;
+use crate::records;
+use crate::section::{FIVE, Section};
+
+/// Matrices by state number, where they are not the fresh identity; lights by index, each with its enable.
+#[derive(Default)]
+pub struct Book {
+    matrices: BTreeMap<u32, D3DMATRIX>,
+    material: D3DMATERIAL9,
+    lights: BTreeMap<u32, (D3DLIGHT9, bool)>,
+}
+
+impl Book {
+    /// What an image that is read in puts in place of everything.
+    #[must_use]
+    pub fn of_image(bytes: &[u8]) -> Self {
+        let mut book = Self {
+            material: records::material(&bytes[image::MATERIAL..]),
+            ..Self::default()
+        };
+        for (state, at) in (0..512).filter_map(|state| Some((state, image::place(state)?))) {
+            book.matrices.insert(state, records::matrix(&bytes[at..]));
+        }
+        for i in (0..SLOTS).filter(|i| bytes[image::DEFINED] >> i & 1 != 0) {
+            let light = records::light(&bytes[image::slot(i)..]);
+            let enabled = bytes[image::ENABLED] >> i & 1 != 0;
+            book.lights.insert(i as u32, (light, enabled));
+        }
+        for entry in (0..usize::from(number16(bytes, image::COUNT))).map(image::entry) {
+            let light = records::light(&bytes[entry + 8..]);
+            let enabled = number32(bytes, entry + 4) != 0;
+            book.lights.insert(number32(bytes, entry), (light, enabled));
+        }
+        book
+    }
+
+    /// A call that is not refused.
+    pub fn heed(&mut self, call: &Call) {
+        let number = call.number;
+        match call.name {
+            Name::ImageFresh => *self = Self::default(),
+            Name::SetTransform => {
+                self.matrices.insert(number, records::matrix(&call.given));
+            }
+            Name::MultiplyTransform => {
+                let slot = self.matrices.entry(number).or_insert(D3DMATRIX::IDENTITY);
+                *slot = FfState::mat_mul(slot, &records::matrix(&call.given));
+            }
+            Name::SetMaterial => self.material = records::material(&call.given),
+            Name::SetLightAt => self.light(number).0 = records::light(&call.given),
+            Name::SetLightEnabledAt => self.light(number).1 = call.enabled != 0,
+            _ => {}
+        }
+    }
+
+    /// The light at an index, the default one and off where there is none.
+    fn light(&mut self, index: u32) -> &mut (D3DLIGHT9, bool) {
+        self.lights
+            .entry(index)
+            .or_insert((D3DLIGHT9::default(), false))
+    }
+
+    /// The sections with rows that a mirror holds wrong, and their counts.
+    #[must_use]
+    pub fn wrong_rows(&self, key: Key, mirror: &[u8]) -> [(Section, usize); FIVE.len()] {
+        let mut rust = FfState::new();
+        for (&state, matrix) in &self.matrices {
+            rust.set_transform(state, matrix);
+        }
+        rust.set_material(&self.material);
+        for (&index, (light, enabled)) in &self.lights {
+            rust.set_light_at(index, light);
+            rust.set_light_enabled_at(index, *enabled);
+        }
+        FIVE.map(|section| (section, section.wrong_rows(&rust, key, mirror)))
+    }
+}

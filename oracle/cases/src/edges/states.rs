@@ -1,0 +1,62 @@
+//! States that are the same for every seed.
+
+use crate::call::{Call, LIGHT};
+use crate::floats::{NAN, ONE, SIGN};
+use crate::states::{LONG, directed, enable, set_light, set_material, set_transform};
+
+/// The calls that make each of them.
+#[must_use]
+pub fn states() -> Vec<Vec<Call>> {
+    vec![
+        kinds_of_lights(),
+        directions(),
+        vec![enable(0, 1), enable(5, 1), enable(70, 1)],
+    ]
+}
+
+/// Document 01's run-only case on each axis, with either sign; a direction of zeros, and one of 0,0,2.
+fn directions() -> Vec<Call> {
+    let axes = [
+        [LONG, 0, 0],
+        [LONG | SIGN, 0, 0],
+        [0, LONG, 0],
+        [0, LONG | SIGN, 0],
+        [0, 0, LONG],
+        [0, 0, LONG | SIGN],
+        [0, SIGN, 0],
+        [0, 0, 0x4000_0000],
+    ];
+    let lights = axes.into_iter().zip(0..);
+    lights
+        .flat_map(|(axis, index)| [set_light(index, &directed(3, axis)), enable(index, 1)])
+        .collect()
+}
+
+/// Types 0 to 5, each field another number, in slots and from index 8 on, the higher index first; a spot whose angles
+/// are 0, and NaNs; a moved world.
+#[must_use]
+pub fn kinds_of_lights() -> Vec<Call> {
+    let mut moved = [0; 16];
+    for i in 0..4 {
+        moved[5 * i] = ONE;
+    }
+    for (entry, to) in moved[12..15].iter_mut().zip([5f32, 6.0, 7.0]) {
+        *entry = to.to_bits();
+    }
+    let mut calls = vec![
+        set_transform(256, &moved),
+        set_transform(2, &moved),
+        set_material((1..=17).flat_map(|i| (i as f32).to_le_bytes()).collect()),
+    ];
+    for (type_, index) in (0..6).zip([3, 0, 70, 9, 1, 2]) {
+        let mut light: [u32; LIGHT / 4] = core::array::from_fn(|i| (i as f32).to_bits());
+        light[0] = type_;
+        calls.push(set_light(index, &light));
+        calls.push(enable(index, 1));
+    }
+    let mut bare = directed(2, [0, 0, NAN]);
+    bare[20] = NAN;
+    calls.push(set_light(7, &bare));
+    calls.push(enable(7, 1));
+    calls
+}

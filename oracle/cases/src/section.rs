@@ -1,0 +1,137 @@
+//! The sections of a mirror: document 01's bits, first rows and numbers of rows, and the Rust's rows.
+
+use std::mem::MaybeUninit;
+use std::ops::Range;
+
+use original::dxso::FfVsKey;
+use original::ff_state::FfState;
+
+use crate::floats::{alike, with_one_nan};
+use crate::image::number32;
+use crate::key::Key;
+
+/// The bytes of a row.
+pub const ROW: usize = 16;
+/// The rows of a mirror, and its bytes.
+pub const ROWS: usize = 1115;
+pub const MIRROR: usize = ROW * ROWS;
+/// The matrices of indexed blending.
+const INDEXED: u32 = 40;
+
+#[derive(Clone, Copy, Debug, PartialEq, Eq)]
+pub enum Section {
+    Wv,
+    Proj,
+    Material,
+    Lights,
+    Palette,
+    Tt,
+}
+
+/// Those with rows, which demand 3 speaks of, and their bits.
+pub const FIVE: [Section; 5] = [
+    Section::Wv,
+    Section::Proj,
+    Section::Material,
+    Section::Lights,
+    Section::Palette,
+];
+pub const FIVE_BITS: u8 = 31;
+
+impl Section {
+    #[must_use]
+    pub const fn bit(self) -> u8 {
+        1 << self as u8
+    }
+
+    #[must_use]
+    pub const fn first_row(self) -> usize {
+        match self {
+            Self::Wv => 0,
+            Self::Proj => 4,
+            Self::Material => 10,
+            Self::Lights => 15,
+            Self::Palette => 95,
+            // It writes nothing.
+            Self::Tt => ROWS,
+        }
+    }
+
+    /// Document 01's rows of the section under a key.
+    #[must_use]
+    pub const fn rows(self, key: Key) -> u32 {
+        match self {
+            Self::Wv | Self::Proj => 4,
+            Self::Material if key.lighting_enabled == 0 => 1,
+            Self::Material if key.specular_enable == 0 => 4,
+            Self::Material => 5,
+            Self::Lights => 6 * (8 - key.light_active_mask.leading_zeros()),
+            Self::Palette if key.vertex_blend_count == 0 => 0,
+            Self::Palette if key.vertex_blend_indexed != 0 => 4 * INDEXED,
+            Self::Palette => 4 * key.vertex_blend_count as u32,
+            Self::Tt => 0,
+        }
+    }
+
+    /// The bytes of a mirror that the section has under a key.
+    #[must_use]
+    pub const fn place(self, key: Key) -> Range<usize> {
+        let start = ROW * self.first_row();
+        start..start + ROW * self.rows(key) as usize
+    }
+
+    /// The Rust's number of rows.
+    pub(crate) fn rust_rows(self, rust: &FfState, key: &FfVsKey) -> u32 {
+        u32::from(match self {
+            Self::Wv | Self::Proj => 4,
+            Self::Material => FfState::material_section_rows(key),
+            Self::Lights => FfState::lights_section_rows(key),
+            Self::Palette => rust.palette_section_rows(key),
+            Self::Tt => rust.tt_section_rows(),
+        })
+    }
+
+    /// The Rust's rows; the key's mask is 0 or the compacted active mask.
+    pub(crate) fn fill(self, rust: &FfState, key: Key) -> Vec<u8> {
+        let rows = self.rows(key);
+        let key = &key.rust();
+        assert_eq!(
+            rows,
+            self.rust_rows(rust, key),
+            "document 01's rows are the Rust's"
+        );
+        // A float that no input is likely to give, so that a row that the Rust leaves alone is seen.
+        let unwritten = MaybeUninit::new([f32::from_bits(0x5EAD_BEEF); 4]);
+        let mut dst = vec![unwritten; rows as usize];
+        match self {
+            Self::Wv => rust.fill_wv_section(&mut dst),
+            Self::Proj => rust.fill_proj_section(&mut dst),
+            Self::Material => rust.fill_material_section(key, &mut dst),
+            Self::Lights => rust.fill_lights_section(key, &mut dst),
+            Self::Palette => rust.fill_palette_section(key, &mut dst),
+            Self::Tt => rust.fill_tt_section(&mut dst),
+        }
+        let mut bytes = Vec::with_capacity(ROW * dst.len());
+        for row in dst {
+            // SAFETY: each row was a value before the call.
+            for float in unsafe { row.assume_init() } {
+                bytes.extend(with_one_nan(float.to_bits()).to_le_bytes());
+            }
+        }
+        bytes
+    }
+
+    /// Document 01's count: the rows in which a mirror differs from the Rust's packing.
+    pub(crate) fn wrong_rows(self, rust: &FfState, key: Key, mirror: &[u8]) -> usize {
+        let packing = self.fill(rust, key);
+        let found = mirror[self.place(key)].chunks(ROW);
+        found
+            .zip(packing.chunks(ROW))
+            .filter(|(a, b)| (0..ROW).step_by(4).any(|at| !alike_at(a, b, at)))
+            .count()
+    }
+}
+
+fn alike_at(a: &[u8], b: &[u8], at: usize) -> bool {
+    alike(number32(a, at), number32(b, at))
+}

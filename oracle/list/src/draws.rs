@@ -1,0 +1,174 @@
+//! Row counts and fills under many keys, and frames of one mirror.
+
+use cases::call::{Call, Gives, LIGHT, Length, NAMES, Name};
+use cases::floats::ONE;
+use cases::image;
+use cases::key::Key;
+use cases::section::{FIVE, MIRROR, ROW};
+use cases::states::{enable, set_light, set_material, set_transform};
+
+use crate::calls::light;
+use crate::running::Running;
+
+fn mark(bits: u32) -> Call {
+    Call::numbered(Name::MarkFfVsDirty, bits)
+}
+
+/// A refresh under the state's own mask.
+fn refresh(key: Key) -> Call {
+    Call {
+        own_mask: Some(0),
+        ..Call::keyed(Name::Refresh, key)
+    }
+}
+
+/// A state with lights of each kind, in slots and from index 8 on, and matrices and a material of unlike floats.
+fn scene() -> Vec<Call> {
+    let floats = |of: u32| core::array::from_fn(|i| ((of + i as u32) as f32 * 0.25).to_bits());
+    let mut calls = vec![
+        Call::plain(Name::ImageFresh),
+        set_transform(2, &floats(3)),
+        set_transform(3, &floats(40)),
+        set_transform(256, &floats(80)),
+        set_transform(258, &floats(120)),
+        set_material((1..=17).flat_map(|i| (i as f32).to_le_bytes()).collect()),
+    ];
+    for (index, type_) in [(0, 3), (3, 2), (70, 1)] {
+        let mut light: [u32; LIGHT / 4] = core::array::from_fn(|i| (i as f32 * 0.5).to_bits());
+        light[0] = type_;
+        calls.extend([set_light(index, &light), enable(index, 1)]);
+    }
+    calls
+}
+
+/// Each flag alone and several together; masks; counts.
+const KEYS: [[u8; 7]; 20] = [
+    [0, 0, 0, 0, 0, 0, 0],
+    [1, 0, 0, 0, 0, 0, 0],
+    [0, 1, 0, 0, 0, 0, 0],
+    [0, 0, 1, 0, 0, 0, 0],
+    [0, 0, 0, 1, 0, 0, 0],
+    [0, 0, 0, 0, 0, 2, 0],
+    [0, 1, 1, 0, 0, 0, 0],
+    [0, 1, 0, 1, 7, 0, 1],
+    [0, 0, 1, 1, 7, 1, 2],
+    [255, 128, 2, 4, 7, 255, 255],
+    [0, 1, 1, 0, 7, 0, 0],
+    [0, 0, 0, 0, 7, 0, 1],
+    [0, 1, 0, 0, 0, 0, 3],
+    [0, 1, 0, 0, 4, 0, 2],
+    [0, 1, 1, 0, 6, 0, 0],
+    [0, 1, 1, 0, 255, 0, 4],
+    [0, 0, 0, 1, 3, 0, 40],
+    [0, 0, 0, 0, 1, 0, 40],
+    [0, 2, 2, 0, 0, 3, 41],
+    [0, 1, 1, 0, 7, 0, 255],
+];
+
+/// Row counts and fills of every section under each key; a length too short and one too long.
+pub fn packs(running: &mut Running) {
+    running.calls(&scene());
+    for key in KEYS.map(Key::of) {
+        for &name in NAMES.iter().filter(|name| name.packs()) {
+            running.call(&Call::keyed(name, key));
+        }
+    }
+    for key in [KEYS[0], KEYS[10], KEYS[11]].map(Key::of) {
+        for &name in NAMES {
+            let call = Call::keyed(name, key);
+            if matches!(name.form().gives, Gives::Fill(_)) {
+                let right = call.right_length();
+                for length in [0, right.max(1) - 1, right + 1, right + ROW] {
+                    running.call(&Call {
+                        lent: Length::Bytes(length),
+                        ..call.clone()
+                    });
+                }
+            }
+        }
+    }
+}
+
+/// Frames of one mirror: each change alone between two refreshes, overwritings and marks, other keys, each refusal with
+/// LIGHTS dirty and clean.
+pub fn frames(running: &mut Running) {
+    let key = Key::of([0, 1, 1, 0, 0, 0, 2]);
+    let other = Key::of([0, 1, 0, 1, 0, 1, 1]);
+    let identity = core::array::from_fn(|i| if i % 5 == 0 { ONE } else { 0 });
+    // Rows of no section, and each section's first: NaNs of other patterns.
+    for (row, i) in FIVE
+        .map(|section| section.first_row())
+        .into_iter()
+        .chain([8, 14, 64, 1114])
+        .zip(0..)
+    {
+        running.put_float(4 * row, 0x7F80_0001 + i);
+        running.put_float(4 * row + 3, 0xFFC0_0000 + i);
+    }
+    running.calls(&scene());
+    let refusals = |running: &mut Running| {
+        for lent in [0, 1, 16, MIRROR - 16, MIRROR - 1] {
+            for has_rhw in [0, 1] {
+                running.call(&Call {
+                    lent: Length::Bytes(lent),
+                    ..refresh(Key { has_rhw, ..key })
+                });
+            }
+        }
+        for (has_rhw, without) in [(1, 0), (128, 1), (0, 1), (0, 2)] {
+            running.call(&Call {
+                own_mask: Some(without),
+                ..refresh(Key { has_rhw, ..key })
+            });
+        }
+    };
+    refusals(running);
+    running.calls(&[refresh(key), refresh(key)]);
+    refusals(running);
+    let mut changes: Vec<Call> = [2, 3, 16, 256, 257, 259]
+        .map(|state| set_transform(state, &identity))
+        .to_vec();
+    changes.push(Call {
+        name: Name::MultiplyTransform,
+        ..set_transform(258, &core::array::from_fn(|i| (i as f32).to_bits()))
+    });
+    changes.extend([
+        set_material(vec![0; 68]),
+        light(3, 2),
+        enable(70, 1),
+        light(5, 1),
+    ]);
+    for change in &changes {
+        // An equal value dirties too.
+        running.calls(&[change.clone(), refresh(key), change.clone(), refresh(key)]);
+    }
+    for section in FIVE {
+        let row = section.first_row();
+        running.put_float(4 * row + 1, 0x7FA0_0000 + row as u32);
+        running.calls(&[refresh(key), mark(u32::from(section.bit())), refresh(key)]);
+    }
+    for key in [
+        other,
+        key,
+        Key::of([0; 7]),
+        Key::of([0, 0, 0, 0, 0, 0, 255]),
+    ] {
+        running.calls(&[mark(31), refresh(key), mark(32), refresh(key)]);
+    }
+    // Other lights, and so another mask: an old one is refused.
+    let mut old = refresh(key);
+    old.own_mask = None;
+    old.key.light_active_mask = 7;
+    running.calls(&[
+        enable(4, 1),
+        old,
+        mark(63),
+        refresh(key),
+        enable(4, 0),
+        refresh(key),
+    ]);
+    // An image read in, with every bit clear.
+    running.put_byte(image::DIRTY, 0);
+    running.put_byte(image::MATERIAL + 3, 0x40);
+    running.calls(&[refresh(key), mark(7), mark(24), refresh(key)]);
+}
