@@ -4,9 +4,9 @@
 use std::hint::black_box;
 
 use crate::measure::{alone, alternating};
+use crate::scene::IMAGE;
 use crate::{ours, raw};
 
-const IMAGE: usize = 24_204;
 const MATRIX: usize = 64;
 const MATERIAL: usize = 68;
 const LIGHT: usize = 104;

@@ -8,6 +8,7 @@ use mathlib.Core.List.{List}
 use lib.ListN.{length}
 use borrow.Author.Tests.{eq-eqb}
 use Rattle.ff_state.specs.declared.state.FfState.{FfState}
+use Rattle.image_parts.specs.Length.{imageLength}
 use Rattle.image_parts.specs.Reasons.{refused}
 use Rattle.image_parts.proofs.Accepted as Accepted
 use Rattle.image.specs.Format.{imageBytes}
@@ -20,18 +21,18 @@ use Rattle.calls.specs.Call.{Called, callCode, changing, reading}
 use Rattle.calls.proofs.Answers as Answers
 
 -- what is not refused has an image's length
-pub image-long : (image : List ℕ) → refused image ≡ false → length image ≡ 24_204
+pub image-long : (image : List ℕ) → refused image ≡ false → length image ≡ imageLength
 image-long image h = Accepted.accepted image h .long
 
-pub image-fits : (image : List ℕ) → refused image ≡ false → 24_204 ≤ length image
+pub image-fits : (image : List ℕ) → refused image ≡ false → imageLength ≤ length image
 image-fits image h = omega (arith, image-long image h)
 
-accepts : (s : FfState) (image : List ℕ) → length image ≡ 24_204 → writeImage s image ≡ outcome Written (imageBytes s)
+accepts : (s : FfState) (image : List ℕ) → length image ≡ imageLength → writeImage s image ≡ outcome Written (imageBytes s)
 unfolding writeImage
-accepts s image len = rw (eq-eqb (length image) 24_204 len)
+accepts s image len = rw (eq-eqb (length image) imageLength len)
 
 -- what a write over an image leaves
-pub written : {a : WriteAnswer} {last : List ℕ} (s : FfState) (image : List ℕ) → length image ≡ 24_204
+pub written : {a : WriteAnswer} {last : List ℕ} (s : FfState) (image : List ℕ) → length image ≡ imageLength
     → outcome a last ≡ writeImage s image → last ≡ imageBytes s
 written s image len e = ap (λ (o : Outcome). o .bytes) (e ∙ accepts s image len)
 

@@ -1,18 +1,18 @@
 // State images: the fresh one, and whether one can be read.
 ghost use mathlib.Core.Path.{_≡_};
 ghost use lib.ListN.{length};
+ghost use Rattle.image_parts.specs.Length.{imageLength};
 ghost use Rattle.image.specs.Format.{imageBytes};
 ghost use Rattle.calls.specs.Answer.{answer};
 ghost use Rattle.calls.specs.Images.{ffImageFresh, ffImageCheck};
 use ff_state::FfState;
 use image::write_image;
+use image_parts::IMAGE_LENGTH;
 use image_parts::image_refused;
-
-const IMAGE_BYTES: usize = 24_204;
 
 // The state over an image that was read.
 pub fn put_state(image: &mut [u8], s: FfState)
-    requires { ⌜ length (now image) ≡ 24_204 ⌝ }
+    requires { ⌜ length (now image) ≡ imageLength ⌝ }
     ensures { λ _. ⌜ now (image .exit) ≡ imageBytes s ⌝ }
 {
     write_image(s, image);
@@ -21,7 +21,7 @@ pub fn put_state(image: &mut [u8], s: FfState)
 pub fn image_fresh(image: &mut [u8]) -> u32
     ensures { λ r. ⌜ answer r (now (image .exit)) ≡ ffImageFresh (now (image .entry)) ⌝ }
 {
-    if image.len() != IMAGE_BYTES {
+    if image.len() != IMAGE_LENGTH {
         return 4;
     }
     put_state(image, FfState::new());

@@ -1,4 +1,4 @@
--- The table of a state's fields tiles: each place is the sum of the lengths before it, and the last field ends at 24,204.
+-- The table of a state's fields tiles: each place is the sum of the lengths before it, and the last field ends the image.
 -- Assumes nothing.
 use native.Mathlib.Nat.{zero-add}
 use mathlib.Core.Path.{_≡_, refl, sym, _∙_}
@@ -13,9 +13,10 @@ use Rattle.codec.proofs.Laws.Light.{length-lightBytes}
 use Rattle.ff_state.specs.declared.state.FfState.{FfState}
 use Rattle.ff_state.specs.Valid.{Valid}
 use Rattle.image_parts.specs.Entry.{entryBytes}
+use Rattle.image_parts.specs.Length.{imageLength}
 use Rattle.image_parts.proofs.Entry.{length-entryBytes}
 use Rattle.image.specs.Table.{Tiles}
-use Rattle.image.specs.Format.{imageTable, imageBytes, imageLength, Sized}
+use Rattle.image.specs.Format.{imageTable, imageBytes, Sized}
 use Rattle.image.proofs.Items.{length-listBytes}
 use Rattle.image.proofs.Held.{AllHold, tiles-hold}
 use Rattle.image.proofs.Table.{length-tableBytes}
@@ -45,7 +46,7 @@ module _ (s : FfState) (z : Sized s) where
       )
       (refl, (refl, (refl, (refl, (refl, (refl, (refl, (refl, (refl, (refl, (refl, (refl, (refl, refl)))))))))))))
 
-  pub length-imageBytes : length (imageBytes s) ≡ 24_204
+  pub length-imageBytes : length (imageBytes s) ≡ imageLength
   unfolding imageBytes
   length-imageBytes = sym (zero-add (length (imageBytes s))) ∙ length-tableBytes 0 imageLength (imageTable s) image-tiles
 

@@ -1,4 +1,4 @@
--- The state image, 24,204 bytes. Document 01, 'State image'; its fields in its order, at its places.
+-- The state image. Document 01, 'State image'; its fields in its order, at its places.
 use Prim.Native.Nat.{ℕ}
 use mathlib.Core.Path.{_≡_}
 use mathlib.Core.List.{List, [], _∷_}
@@ -11,9 +11,6 @@ use Rattle.ff_state.specs.declared.state.FfState.{FfState}
 use Rattle.image_parts.specs.Lists.{listBytes}
 use Rattle.image_parts.specs.Entry.{entryBytes}
 use Rattle.image.specs.Table.{Field, field, tableBytes}
-
-abbrev pub imageLength : ℕ
-imageLength = 24_204
 
 -- Each number as it stands, odd ones too. The masks of types are not written: they follow from the lights.
 unfoldable pub imageTable : FfState → List Field

@@ -2,6 +2,7 @@
 ghost use mathlib.Core.Path.{_≡_};
 ghost use Prim.Native.Nat.{_≤_};
 ghost use lib.ListN.{length};
+ghost use Rattle.image_parts.specs.Length.{imageLength};
 ghost use Rattle.image.specs.Read.{stateOf, readImage};
 use codec::material_at;
 use codec::matrix_at;
@@ -29,7 +30,7 @@ pub struct ImageRead {
 
 // The state that an image's bytes say, whether or not they are refused.
 pub fn state_of(bytes: &[u8]) -> FfState
-    requires { ⌜ 24_204 ≤ length (now bytes) ⌝ }
+    requires { ⌜ imageLength ≤ length (now bytes) ⌝ }
     ensures { λ r. ⌜ r ≡ stateOf (now (bytes .entry)) ⌝ }
 {
     let lights = lights_at(bytes, 17_092);

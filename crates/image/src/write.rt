@@ -10,8 +10,7 @@ use codec::put_matrix;
 use codec::put_u8;
 use codec::put_u16;
 use ff_state::FfState;
-
-const IMAGE_LENGTH: usize = 24_204;
+use image_parts::IMAGE_LENGTH;
 
 pub enum WriteAnswer {
     Written,

@@ -22,6 +22,7 @@ use Rattle.codec.specs.Light.{lightBytes}
 use Rattle.light_table.specs.declared.entry.OverflowLight.{OverflowLight}
 use Rattle.image_parts.specs.Entry.{entryBytes}
 use Rattle.image_parts.specs.Every.{every}
+use Rattle.image_parts.specs.Length.{imageLength}
 use Rattle.image_parts.specs.Lists.{listBytes}
 use Rattle.image_parts.specs.Tests.{plainAt, nanFree, lightsNanFree, entriesNanFree, ascends, flags, zeros, same, sameByte, bitsDefined, slotsDefault}
 use Rattle.image_parts.specs.Reasons.{countOf, numbersRefused, entriesRefused, slotsRefused, anotherNaN, refused}
@@ -83,7 +84,7 @@ is-same ws bytes at h =
 -- ---- all of them
 
 pub record Passes (bytes : List ℕ) : Type 0 where
-  pub long : length bytes ≡ 24_204
+  pub long : length bytes ≡ imageLength
   pub dirty : numberAt 1 bytes 17_926 ≤ 63
   pub zero : numberAt 1 bytes 17_927 ≡ 0
   pub index : numberAt 2 bytes 17_928 ≤ 255
@@ -110,7 +111,7 @@ pub passes : (bytes : List ℕ) → Passes bytes → refused bytes ≡ false
 unfolding refused numbersRefused entriesRefused slotsRefused anotherNaN
 passes bytes p =
     let n = countOf bytes in
-    let length-is = passed (eq-eqb (length bytes) 24_204 (p .long)) in
+    let length-is = passed (eq-eqb (length bytes) imageLength (p .long)) in
     let dirty-is = le-ltb 63 (numberAt 1 bytes 17_926) (p .dirty) in
     let zero-is = passed (eq-eqb (numberAt 1 bytes 17_927) 0 (p .zero)) in
     let numbers = neither dirty-is (neither zero-is (neither (le-ltb 255 (numberAt 2 bytes 17_928) (p .index)) (le-ltb 56 n (p .count)))) in

@@ -9,6 +9,7 @@ use borrow.Author.Tests.{eq-eqb}
 use Rattle.codec.specs.Little.{Bytes}
 use Rattle.ff_state.specs.Valid.{Valid}
 use Rattle.ff_state.specs.declared.state.FfState.{FfState}
+use Rattle.image_parts.specs.Length.{imageLength}
 use Rattle.image_parts.specs.Reasons.{refused}
 use Rattle.image.specs.Format.{imageBytes}
 use Rattle.image.specs.Read.{stateOf, readImage}
@@ -20,21 +21,21 @@ use Rattle.image_laws.proofs.ReadWritten.{read-written}
 use Rattle.image_laws.proofs.ValidAccepted.{valid-accepted}
 use Rattle.image_laws.proofs.WrittenRead.{written-read}
 
-pub write-writes : (s : FfState) (dst : List ℕ) → length dst ≡ 24_204 → writeImage s dst ≡ outcome Written (imageBytes s)
+pub write-writes : (s : FfState) (dst : List ℕ) → length dst ≡ imageLength → writeImage s dst ≡ outcome Written (imageBytes s)
 unfolding writeImage
-write-writes s dst h = rw (eq-eqb (length dst) 24_204 h)
+write-writes s dst h = rw (eq-eqb (length dst) imageLength h)
 
 pub read-reads : (t : FfState) (bytes : List ℕ) → refused bytes ≡ false → readImage t bytes ≡ record { answer = Accepted; state = stateOf bytes }
 unfolding readImage
 read-reads t bytes h = rw h
 
-pub written-then-read : (s t : FfState) (dst : List ℕ) → Valid s → length dst ≡ 24_204 → readImage t (writeImage s dst .bytes) ≡ record { answer = Accepted; state = s }
+pub written-then-read : (s t : FfState) (dst : List ℕ) → Valid s → length dst ≡ imageLength → readImage t (writeImage s dst .bytes) ≡ record { answer = Accepted; state = s }
 written-then-read s t dst v h =
     ap (λ (o : Outcome). readImage t (o .bytes)) (write-writes s dst h)
     ∙ read-reads t (imageBytes s) (valid-accepted s v)
     ∙ ap {B = ImageRead} (λ (u : FfState). record { answer = Accepted; state = u }) (read-written s v)
 
-pub read-then-written : (bytes : List ℕ) (t : FfState) (dst : List ℕ) → Bytes bytes → refused bytes ≡ false → length dst ≡ 24_204
+pub read-then-written : (bytes : List ℕ) (t : FfState) (dst : List ℕ) → Bytes bytes → refused bytes ≡ false → length dst ≡ imageLength
     → writeImage (readImage t bytes .state) dst ≡ outcome Written bytes
 read-then-written bytes t dst b h l =
     ap (λ (r : ImageRead). writeImage (r .state) dst) (read-reads t bytes h)

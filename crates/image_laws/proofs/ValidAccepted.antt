@@ -24,6 +24,7 @@ use Rattle.ff_state.specs.State.{noMatrix}
 use Rattle.ff_state.specs.Valid.{Valid, slotLight}
 use Rattle.ff_state.specs.declared.state.FfState.{FfState}
 use Rattle.image_parts.specs.Entry.{entryBytes, entryAt}
+use Rattle.image_parts.specs.Length.{imageLength}
 use Rattle.image_parts.specs.Lists.{listBytes, listAt}
 use Rattle.image_parts.specs.Tests.{nanFree, lightsNanFree, plainLight, entriesNanFree, plainEntry, ascends, flags, flagAt, zeros, zeroByte, bitsDefined, bitDefined, slotsDefault, slotDefault, defaultAt}
 use Rattle.image_parts.specs.Reasons.{countOf, refused}
@@ -138,7 +139,7 @@ module _ (s : FfState) (v : Valid s) (bytes : List ℕ) (w : Written s bytes) wh
         rw place (byte-is (replicate 112 0) bytes (17_932 + 112 * k) r is (omega arith) ∙ getD-replicate 112 r 0 0 (omega arith)) in
         eq-eqb (getD bytes (17_932 + 112 * n + j) 0) 0 zero)
 
-  written-passes : length bytes ≡ 24_204 → stateOf bytes ≡ s → Passes bytes
+  written-passes : length bytes ≡ imageLength → stateOf bytes ≡ s → Passes bytes
   unfolding stateOf
   written-passes long read =
       let count : countOf bytes ≡ s .«overflow_count» = ap (λ (t : FfState). t .«overflow_count») read in

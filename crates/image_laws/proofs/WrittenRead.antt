@@ -14,11 +14,12 @@ use Rattle.codec.specs.Light.{lightBytes, lightAt}
 use Rattle.codec.proofs.Laws.Matrix.{length-matrixBytes}
 use Rattle.codec.proofs.Laws.Light.{length-lightBytes}
 use Rattle.image_parts.specs.Entry.{entryBytes, entryAt}
+use Rattle.image_parts.specs.Length.{imageLength}
 use Rattle.image_parts.specs.Lists.{listBytes, listAt}
 use Rattle.image_parts.specs.Reasons.{refused}
 use Rattle.image_parts.proofs.Accepted.{Accepted, accepted}
 use Rattle.image_parts.proofs.Entry.{length-entryBytes}
-use Rattle.image.specs.Format.{imageBytes, imageTable, imageLength}
+use Rattle.image.specs.Format.{imageBytes, imageTable}
 use Rattle.image.specs.Read.{stateOf}
 use Rattle.image.proofs.Format.{image-tiles, length-imageBytes, valid-sized}
 use Rattle.image_laws.proofs.IsAt.{IsAt, AllAt, _also_, list-is, number-is, table-is}
@@ -49,7 +50,7 @@ module _ (bytes : List ℕ) (b : Bytes bytes) (a : Accepted bytes) where
       list-is entryBytes 112 length-entryBytes entryAt bytes 56 17_932
       (λ (i : ℕ) (l : i < 56). entry-back bytes b (17_932 + 112 * i) (omega (arith, a .long)) (λ (k : ℕ) (m : k < 25). a .entry-floats i k l m))
 
-  number-at : (k at : ℕ) → at + k ≤ 24_204 → IsAt (littleBytes k (numberAt k bytes at)) bytes at
+  number-at : (k at : ℕ) → at + k ≤ imageLength → IsAt (littleBytes k (numberAt k bytes at)) bytes at
   number-at k at room = number-is k bytes at b (rw (a .long) room)
 
   fields-are : AllAt bytes (imageTable (stateOf bytes))

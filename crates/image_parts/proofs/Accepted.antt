@@ -3,7 +3,7 @@
 use Prim.Native.Nat.{ℕ, _+_, _-_, _*_, _≤_, _<_}
 use native.Mathlib.Nat.{zero-add}
 use native.Mathlib.Omega.{arith}
-use mathlib.Core.Path.{_≡_, sym}
+use mathlib.Core.Path.{_≡_, refl, sym}
 use mathlib.Core.Bool.{Bool, true, false, not, _&&_, _||_, true≢false, and-eq-true-iff}
 use mathlib.Core.List.{List}
 use lib.Dec.{eqb}
@@ -16,6 +16,7 @@ use Rattle.words.specs.Bits.{hasBit}
 use Rattle.light_table.specs.Entry.{zeroEntry}
 use Rattle.light_table.specs.Overflow.{ascending}
 use Rattle.image_parts.specs.Entry.{entryAt}
+use Rattle.image_parts.specs.Length.{imageLength}
 use Rattle.image_parts.specs.Lists.{listAt}
 use Rattle.image_parts.specs.Tests.{nanFree, lightsNanFree, plainLight, entriesNanFree, plainEntry, ascends, flags, flagAt, zeros, bitsDefined, bitDefined, slotsDefault, slotDefault, defaultAt}
 use Rattle.image_parts.specs.Reasons.{anotherLength, dirtyAbove63, zeroByteSet, indexAbove255, countAbove56, countOf, numbersRefused, notAscending, enableNotFlag, unusedNotZero, entriesRefused, enabledUndefined, undefinedNotDefault, slotsRefused, anotherNaN, refused}
@@ -25,8 +26,12 @@ use Rattle.image_parts.proofs.Meaning.{default-is, WrittenAsRead, float
 use Rattle.image_parts.proofs.Numbers.{few-entries}
 use Rattle.image_parts.proofs.Unused.{unused-entries}
 
+-- an image ends with its 56 entries
+pub entries-end : 17_932 + 112 * 56 ≡ imageLength
+entries-end = refl
+
 pub record Accepted (bytes : List ℕ) : Type 0 where
-  pub long : length bytes ≡ 24_204
+  pub long : length bytes ≡ imageLength
   pub dirty : numberAt 1 bytes 17_926 ≤ 63
   pub zero : numberAt 1 bytes 17_927 ≡ 0
   pub index : numberAt 2 bytes 17_928 ≤ 255
@@ -84,7 +89,7 @@ module _ (bytes : List ℕ) (at : ℕ) where
 pub accepted : (bytes : List ℕ) → refused bytes ≡ false → Accepted bytes
 unfolding refused numbersRefused entriesRefused slotsRefused anotherNaN
 accepted bytes h =
-    let len : length bytes ≡ 24_204 = eqb-true (length bytes) 24_204 (not-false (eqb (length bytes) 24_204) (neither (anotherLength bytes) _ h .0)) in
+    let len : length bytes ≡ imageLength = eqb-true (length bytes) imageLength (not-false (eqb (length bytes) imageLength) (neither (anotherLength bytes) _ h .0)) in
     let h₁ = neither (anotherLength bytes) (numbersRefused bytes || (entriesRefused bytes || (slotsRefused bytes || anotherNaN bytes))) h .1 in
     let numbers = neither (numbersRefused bytes) _ h₁ .0 in
     let h₂ = neither (numbersRefused bytes) (entriesRefused bytes || (slotsRefused bytes || anotherNaN bytes)) h₁ .1 in

@@ -1,3 +1,4 @@
+pub mod Length
 pub mod Lists
 pub mod Entry
 pub mod Every

@@ -6,10 +6,11 @@ use mathlib.Core.List.{List}
 use lib.Dec.{ltb, eqb}
 use lib.ListN.{length}
 use Rattle.codec.specs.Little.{numberAt}
+use Rattle.image_parts.specs.Length.{imageLength}
 use Rattle.image_parts.specs.Tests.{nanFree, lightsNanFree, entriesNanFree, zeros, ascends, flags, slotsDefault, bitsDefined}
 
 abbrev pub anotherLength : List ℕ → Bool
-anotherLength bytes = not (eqb (length bytes) 24_204)
+anotherLength bytes = not (eqb (length bytes) imageLength)
 
 abbrev pub dirtyAbove63 : List ℕ → Bool
 dirtyAbove63 bytes = ltb 63 (numberAt 1 bytes 17_926)

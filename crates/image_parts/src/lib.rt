@@ -11,6 +11,7 @@ pub use lists::palette_at;
 pub use lists::textures_at;
 pub use masks::set_mask;
 pub use masks::type_mask;
+pub use reasons::IMAGE_LENGTH;
 pub use reasons::image_refused;
 pub use tests::bits_defined;
 pub use tests::default_light_at;

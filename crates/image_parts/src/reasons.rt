@@ -2,6 +2,7 @@
 ghost use mathlib.Core.Path.{_≡_};
 ghost use Prim.Native.Nat.{_≤_};
 ghost use lib.ListN.{length};
+ghost use Rattle.image_parts.specs.Length.{imageLength};
 ghost use Rattle.image_parts.specs.Reasons.{countOf, numbersRefused, entriesRefused, slotsRefused, anotherNaN, refused};
 use crate::tests::bits_defined;
 use crate::tests::entries_ascending;
@@ -14,8 +15,10 @@ use crate::tests::zeros_at;
 use codec::u8_at;
 use codec::u16_at;
 
+pub const IMAGE_LENGTH: usize = 24_204;
+
 fn numbers_refused(s: &[u8]) -> bool
-    requires { ⌜ 24_204 ≤ length (now s) ⌝ }
+    requires { ⌜ imageLength ≤ length (now s) ⌝ }
     ensures { λ r. ⌜ r ≡ numbersRefused (now (s .entry)) ⌝ }
 {
     if 63 < u8_at(s, 17_926) {
@@ -31,7 +34,7 @@ fn numbers_refused(s: &[u8]) -> bool
 }
 
 fn entries_refused(s: &[u8]) -> bool
-    requires { ⌜ (24_204 ≤ length (now s)) × (countOf (now s) ≤ 56) ⌝ }
+    requires { ⌜ (imageLength ≤ length (now s)) × (countOf (now s) ≤ 56) ⌝ }
     ensures { λ r. ⌜ r ≡ entriesRefused (now (s .entry)) ⌝ }
 {
     let n = u16_at(s, 17_930) as usize;
@@ -45,7 +48,7 @@ fn entries_refused(s: &[u8]) -> bool
 }
 
 fn slots_refused(s: &[u8]) -> bool
-    requires { ⌜ 24_204 ≤ length (now s) ⌝ }
+    requires { ⌜ imageLength ≤ length (now s) ⌝ }
     ensures { λ r. ⌜ r ≡ slotsRefused (now (s .entry)) ⌝ }
 {
     let enabled = u8_at(s, 17_924);
@@ -57,7 +60,7 @@ fn slots_refused(s: &[u8]) -> bool
 }
 
 fn another_nan(s: &[u8]) -> bool
-    requires { ⌜ 24_204 ≤ length (now s) ⌝ }
+    requires { ⌜ imageLength ≤ length (now s) ⌝ }
     ensures { λ r. ⌜ r ≡ anotherNaN (now (s .entry)) ⌝ }
 {
     if !nan_free(s, 0, 4_273) {
@@ -73,7 +76,7 @@ fn another_nan(s: &[u8]) -> bool
 pub fn image_refused(s: &[u8]) -> bool
     ensures { λ r. ⌜ r ≡ refused (now (s .entry)) ⌝ }
 {
-    if s.len() != 24_204 {
+    if s.len() != IMAGE_LENGTH {
         return true;
     }
     if numbers_refused(s) {
