@@ -8,9 +8,9 @@ use mathlib.Core.List.{List}
 use lib.ListN.{length}
 use borrow.Author.Tests.{eq-eqb}
 use Rattle.ff_state.specs.declared.state.FfState.{FfState}
-use Rattle.image_parts.specs.Length.{imageLength}
-use Rattle.image_parts.specs.Reasons.{refused}
-use Rattle.image_parts.proofs.Accepted as Accepted
+use Rattle.image_reasons.specs.Length.{imageLength}
+use Rattle.image_reasons.specs.Reasons.{refused}
+use Rattle.image_reasons.proofs.Accepted as Accepted
 use Rattle.image.specs.Format.{imageBytes}
 use Rattle.image.specs.Read.{stateOf}
 use Rattle.image.specs.Write.{Outcome, outcome, writeImage}

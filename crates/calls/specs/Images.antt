@@ -2,7 +2,7 @@
 use Prim.Native.Nat.{ℕ}
 use mathlib.Core.List.{List}
 use Rattle.ff_state.specs.State.{freshState}
-use Rattle.image_parts.specs.Length.{imageLength}
+use Rattle.image_reasons.specs.Length.{imageLength}
 use Rattle.image.specs.Format.{imageBytes}
 use Rattle.calls.specs.Answer.{Answer, answered, lengthNumber}
 use Rattle.calls.specs.Call.{callCode, none}

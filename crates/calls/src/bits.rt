@@ -5,7 +5,7 @@ ghost use Rattle.calls.specs.Bits.{both, ffMarkFfVsDirty, ffTakeFfVsDirt
 use crate::images::put_state;
 use ff_state::MarkAnswer;
 use image::state_of;
-use image_parts::image_refused;
+use image_reasons::image_refused;
 
 pub fn mark_ff_vs_dirty(image: &mut [u8], bits: u32) -> u32
     ensures { λ r. ⌜ answer r (now (image .exit)) ≡ ffMarkFfVsDirty (now (image .entry)) bits ⌝ }

@@ -1,14 +1,14 @@
 // State images: the fresh one, and whether one can be read.
 ghost use mathlib.Core.Path.{_≡_};
 ghost use lib.ListN.{length};
-ghost use Rattle.image_parts.specs.Length.{imageLength};
+ghost use Rattle.image_reasons.specs.Length.{imageLength};
 ghost use Rattle.image.specs.Format.{imageBytes};
 ghost use Rattle.calls.specs.Answer.{answer};
 ghost use Rattle.calls.specs.Images.{ffImageFresh, ffImageCheck};
 use ff_state::FfState;
 use image::write_image;
-use image_parts::IMAGE_LENGTH;
-use image_parts::image_refused;
+use image_reasons::IMAGE_LENGTH;
+use image_reasons::image_refused;
 
 // The state over an image that was read.
 pub fn put_state(image: &mut [u8], s: FfState)

@@ -7,7 +7,7 @@ use codec::light_at;
 use codec::put_light;
 use ff_state::LightRead;
 use image::state_of;
-use image_parts::image_refused;
+use image_reasons::image_refused;
 use light_table::four_bytes;
 
 const LIGHT_BYTES: usize = 104;

@@ -6,7 +6,7 @@ use crate::images::put_state;
 use codec::material_at;
 use codec::put_material;
 use image::state_of;
-use image_parts::image_refused;
+use image_reasons::image_refused;
 
 const MATERIAL_BYTES: usize = 68;
 

@@ -9,7 +9,7 @@ use ff_state::Slot;
 use ff_state::TransformRead;
 use ff_state::slot_of;
 use image::state_of;
-use image_parts::image_refused;
+use image_reasons::image_refused;
 
 const MATRIX_BYTES: usize = 64;
 

@@ -7,9 +7,6 @@ mod material;
 mod matrix;
 mod vector;
 
-pub use color::color_at;
-pub use color::put_color;
-pub use float::f32_at;
 pub use float::put_f32;
 pub use light::light_at;
 pub use light::put_light;
@@ -23,7 +20,3 @@ pub use material::material_at;
 pub use material::put_material;
 pub use matrix::matrix_at;
 pub use matrix::put_matrix;
-pub use matrix::put_row;
-pub use matrix::row_at;
-pub use vector::put_vector;
-pub use vector::vector_at;

@@ -12,12 +12,12 @@ use Rattle.codec.proofs.Laws.Material.{length-materialBytes}
 use Rattle.codec.proofs.Laws.Light.{length-lightBytes}
 use Rattle.ff_state.specs.declared.state.FfState.{FfState}
 use Rattle.ff_state.specs.Valid.{Valid}
-use Rattle.image_parts.specs.Entry.{entryBytes}
-use Rattle.image_parts.specs.Length.{imageLength}
-use Rattle.image_parts.proofs.Entry.{length-entryBytes}
+use Rattle.image_lists.specs.Entry.{entryBytes}
+use Rattle.image_reasons.specs.Length.{imageLength}
+use Rattle.image_lists.proofs.Entry.{length-entryBytes}
 use Rattle.image.specs.Table.{Tiles}
 use Rattle.image.specs.Format.{imageTable, imageBytes, Sized}
-use Rattle.image.proofs.Items.{length-listBytes}
+use Rattle.image_lists.proofs.Writing.{length-listBytes}
 use Rattle.image.proofs.Held.{AllHold, tiles-hold}
 use Rattle.image.proofs.Table.{length-tableBytes}
 

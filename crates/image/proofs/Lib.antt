@@ -1,4 +1,3 @@
-pub mod Items
 pub mod Table
 pub mod Held
 pub mod Format

@@ -8,7 +8,7 @@ use lib.ListN.{length, length-append}
 use Rattle.codec.specs.Put.{put}
 use Rattle.codec.proofs.Put.{put-append, put-whole}
 use Rattle.image.specs.Table.{Field, tableBytes, Tiles}
-use Rattle.image.proofs.Items.{put-none}
+use Rattle.image_lists.proofs.Writing.{put-none}
 
 pub length-tableBytes : (n e : ℕ) (fs : List Field) → Tiles n fs e → n + length (tableBytes fs) ≡ e
 unfolding tableBytes

@@ -8,8 +8,8 @@ use Rattle.codec.specs.Matrix.{matrixBytes}
 use Rattle.codec.specs.Material.{materialBytes}
 use Rattle.codec.specs.Light.{lightBytes}
 use Rattle.ff_state.specs.declared.state.FfState.{FfState}
-use Rattle.image_parts.specs.Lists.{listBytes}
-use Rattle.image_parts.specs.Entry.{entryBytes}
+use Rattle.image_lists.specs.Lists.{listBytes}
+use Rattle.image_lists.specs.Entry.{entryBytes}
 use Rattle.image.specs.Table.{Field, field, tableBytes}
 
 -- Each number as it stands, odd ones too. The masks of types are not written: they follow from the lights.

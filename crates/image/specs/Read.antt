@@ -1,4 +1,4 @@
--- Reading an image. Document 01, 'State image': "Reading refuses 9 for …"; the reasons are image_parts'.
+-- Reading an image. Document 01, 'State image': "Reading refuses 9 for …"; the reasons are image_reasons'.
 use Prim.Native.Nat.{ℕ}
 use mathlib.Core.Bool.{cond}
 use mathlib.Core.List.{List}
@@ -8,10 +8,10 @@ use Rattle.codec.specs.Material.{materialAt}
 use Rattle.codec.specs.Light.{lightAt}
 use Rattle.d3d9_types.specs.declared.light.D3DLIGHT9.{D3DLIGHT9}
 use Rattle.ff_state.specs.declared.state.FfState.{FfState}
-use Rattle.image_parts.specs.Lists.{listAt}
-use Rattle.image_parts.specs.Entry.{entryAt}
-use Rattle.image_parts.specs.Masks.{setMask, typeMask}
-use Rattle.image_parts.specs.Reasons.{refused}
+use Rattle.image_lists.specs.Lists.{listAt}
+use Rattle.image_lists.specs.Entry.{entryAt}
+use Rattle.image_lists.specs.Masks.{setMask, typeMask}
+use Rattle.image_reasons.specs.Reasons.{refused}
 use Rattle.image.specs.declared.read.ReadAnswer.{ReadAnswer}
 use Rattle.image.specs.declared.read.ReadAnswer.the-variants.{Accepted, NotAnImage}
 use Rattle.image.specs.declared.read.ImageRead.{ImageRead}

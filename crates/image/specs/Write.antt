@@ -5,7 +5,7 @@ use mathlib.Core.List.{List}
 use lib.Dec.{eqb}
 use lib.ListN.{length}
 use Rattle.ff_state.specs.declared.state.FfState.{FfState}
-use Rattle.image_parts.specs.Length.{imageLength}
+use Rattle.image_reasons.specs.Length.{imageLength}
 use Rattle.image.specs.Format.{imageBytes}
 use Rattle.image.specs.declared.write.WriteAnswer.{WriteAnswer}
 use Rattle.image.specs.declared.write.WriteAnswer.the-variants.{Written, WrongLength}

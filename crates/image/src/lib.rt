@@ -1,5 +1,4 @@
 // A state as bytes, in document 01's form.
-mod lists;
 mod read;
 mod write;
 

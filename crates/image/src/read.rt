@@ -2,20 +2,20 @@
 ghost use mathlib.Core.Path.{_≡_};
 ghost use Prim.Native.Nat.{_≤_};
 ghost use lib.ListN.{length};
-ghost use Rattle.image_parts.specs.Length.{imageLength};
+ghost use Rattle.image_reasons.specs.Length.{imageLength};
 ghost use Rattle.image.specs.Read.{stateOf, readImage};
 use codec::material_at;
 use codec::matrix_at;
 use codec::u8_at;
 use codec::u16_at;
 use ff_state::FfState;
-use image_parts::entries_at;
-use image_parts::image_refused;
-use image_parts::lights_at;
-use image_parts::palette_at;
-use image_parts::set_mask;
-use image_parts::textures_at;
-use image_parts::type_mask;
+use image_lists::entries_at;
+use image_lists::lights_at;
+use image_lists::palette_at;
+use image_lists::set_mask;
+use image_lists::textures_at;
+use image_lists::type_mask;
+use image_reasons::image_refused;
 
 pub enum ReadAnswer {
     Accepted,

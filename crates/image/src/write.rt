@@ -1,16 +1,16 @@
 // A state written as an image. Document 01, 'State image'.
 ghost use mathlib.Core.Path.{_≡_};
 ghost use Rattle.image.specs.Write.{outcome, writeImage};
-use crate::lists::put_entries;
-use crate::lists::put_lights;
-use crate::lists::put_palette;
-use crate::lists::put_textures;
 use codec::put_material;
 use codec::put_matrix;
 use codec::put_u8;
 use codec::put_u16;
 use ff_state::FfState;
-use image_parts::IMAGE_LENGTH;
+use image_lists::put_entries;
+use image_lists::put_lights;
+use image_lists::put_palette;
+use image_lists::put_textures;
+use image_reasons::IMAGE_LENGTH;
 
 pub enum WriteAnswer {
     Written,

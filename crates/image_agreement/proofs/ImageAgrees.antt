@@ -13,11 +13,11 @@ use Rattle.light_table.specs.Overflow.{usedCount}
 use Rattle.ff_state.specs.Overflow.{used}
 use Rattle.ff_state.specs.State.{noMatrix}
 use Rattle.d3d9_model.specs.State.{AbstractLight}
-use Rattle.image_parts.specs.Entry.{entryAt}
-use Rattle.image_parts.specs.Lists.{listAt}
-use Rattle.image_parts.specs.Reasons.{countOf, refused}
-use Rattle.image_parts.proofs.Accepted.{accepted}
-use Rattle.image_parts.proofs.Items.{getD-listAt, take-listAt}
+use Rattle.image_lists.specs.Entry.{entryAt}
+use Rattle.image_lists.specs.Lists.{listAt}
+use Rattle.image_reasons.specs.Reasons.{countOf, refused}
+use Rattle.image_reasons.proofs.Accepted.{accepted}
+use Rattle.image_lists.proofs.Reading.{getD-listAt, take-listAt}
 use Rattle.image_model.specs.Abstract.{imageMatrix, slotDefined, slotLight, definedAmong, entryLight, imageLights, imageAbstract}
 use Rattle.image.specs.Read.{stateOf}
 use Rattle.agreement.specs.Agrees.{definedFrom, slotEntry, overflowEntry, stateLights, Agrees}

@@ -8,7 +8,7 @@ use Rattle.codec.specs.Little.{Bytes}
 use Rattle.ff_state.specs.Valid.{Valid}
 use Rattle.ff_state.specs.declared.state.FfState.{FfState}
 use Rattle.d3d9_model.specs.State.{AbstractState}
-use Rattle.image_parts.specs.Reasons.{refused}
+use Rattle.image_reasons.specs.Reasons.{refused}
 use Rattle.image_model.specs.Abstract.{imageAbstract, readRefusal, abstractRead}
 use Rattle.image.specs.Format.{imageBytes}
 use Rattle.image.specs.Read.{readImage, readNumber}

@@ -9,7 +9,7 @@ use lib.ListN.{getD}
 use Rattle.d3d9_types.specs.Light.{defaultLight, lightFits}
 use Rattle.d3d9_types.specs.Matrix.{matrixFits}
 use Rattle.d3d9_types.specs.declared.light.D3DLIGHT9.{D3DLIGHT9}
-use Rattle.codec.specs.Little.{Bytes}
+use Rattle.codec.specs.Little.{numberAt, Bytes}
 use Rattle.codec.specs.Matrix.{matrixAt}
 use Rattle.codec.specs.Light.{lightAt}
 use Rattle.codec.proofs.Laws.Little.{numberAt-lt}
@@ -22,12 +22,14 @@ use Rattle.light_table.specs.Overflow.{usedCount}
 use Rattle.light_table.specs.declared.entry.OverflowLight.{OverflowLight}
 use Rattle.ff_state.specs.State.{noMatrix}
 use Rattle.ff_state.specs.Valid.{Valid, SlotsValid, OverflowValid, FloatsValid}
-use Rattle.image_parts.specs.Entry.{entryAt}
-use Rattle.image_parts.specs.Lists.{listAt}
-use Rattle.image_parts.specs.Masks.{setMask, typeMask, slotSet, slotIs}
-use Rattle.image_parts.specs.Reasons.{countOf, refused}
-use Rattle.image_parts.proofs.Accepted.{Accepted, accepted}
-use Rattle.image_parts.proofs.Items.{length-listAt, getD-listAt, take-listAt}
+use Rattle.image_lists.specs.Entry.{entryAt}
+use Rattle.image_lists.specs.Lists.{listAt}
+use Rattle.image_lists.specs.Masks.{setMask, typeMask, slotSet, slotIs}
+use Rattle.image_reasons.specs.Reasons.{countOf, refused}
+use Rattle.image_reasons.proofs.Accepted.{Accepted, accepted}
+use Rattle.image_reasons.proofs.Meaning.{ascends-is, flags-are, bits-are, slots-are}
+use Rattle.image_reasons.proofs.Unused.{unused-entries}
+use Rattle.image_lists.proofs.Reading.{length-listAt, getD-listAt, take-listAt}
 use Rattle.image.specs.Read.{stateOf, lightsOf, definedOf}
 use Rattle.image_laws.proofs.Masks.{mask-lt, mask-has}
 
@@ -49,10 +51,10 @@ module _ (bytes : List ℕ) (b : Bytes bytes) (a : Accepted bytes) where
         defined-width = numberAt-lt 1 bytes 17_925 b;
         directional-width = mask-lt directional 8;
         spot-width = mask-lt spot 8;
-        enabled-defined = a .enabled-defined;
+        enabled-defined = bits-are (numberAt 1 bytes 17_924) (definedOf bytes) (a .enabled-defined);
         undefined-default =
             λ (i : ℕ) (l : i < 8) (off : hasBit (definedOf bytes) i ≡ false).
-            listed (λ (x : D3DLIGHT9). x ≡ defaultLight) lightAt 104 8 bytes 17_092 i defaultLight l (a .undefined-default i l off);
+            listed (λ (x : D3DLIGHT9). x ≡ defaultLight) lightAt 104 8 bytes 17_092 i defaultLight l (slots-are (definedOf bytes) bytes 17_092 (omega (arith, a .long)) (a .undefined-default) i l off);
         set-mask = mask-has set 8;
         directional-mask = mask-has directional 8;
         spot-mask = mask-has spot 8;
@@ -64,15 +66,15 @@ module _ (bytes : List ℕ) (b : Bytes bytes) (a : Accepted bytes) where
       let all : min (countOf bytes) 56 ≡ countOf bytes = omega (arith, a .count) in
       record {
         count = a .count;
-        sorted = rw (all, take-listAt entryAt 112 (countOf bytes) 56 bytes 17_932 (a .count)) (a .sorted);
+        sorted = rw (all, take-listAt entryAt 112 (countOf bytes) 56 bytes 17_932 (a .count)) (ascends-is (countOf bytes) bytes 17_932 (a .sorted));
         flags =
             λ (k : ℕ) (l : k < countOf bytes).
-            listed (λ (e : OverflowLight). e .enabled ≤ 1) entryAt 112 56 bytes 17_932 k zeroEntry (omega (arith, a .count)) (a .enables k l);
+            listed (λ (e : OverflowLight). e .enabled ≤ 1) entryAt 112 56 bytes 17_932 k zeroEntry (omega (arith, a .count)) (flags-are (countOf bytes) bytes 17_932 (a .enables) k l);
         indices =
             λ (k : ℕ) (l : k < countOf bytes).
             listed (λ (e : OverflowLight). e .index < 0x1_0000_0000) entryAt 112 56 bytes 17_932 k zeroEntry (omega (arith, a .count))
             (numberAt-lt 4 bytes (17_932 + 112 * k) b);
-        unused = a .unused;
+        unused = unused-entries (countOf bytes) bytes 17_932 (a .count) (omega (arith, a .long)) (a .unused);
       }
 
   floats-valid : let s = stateOf bytes in FloatsValid (s .view) (s .projection) (s .«world_palette») (s .«texture_transforms») (s .material) (s .lights) (s .«overflow_lights»)

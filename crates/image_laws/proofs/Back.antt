@@ -14,11 +14,11 @@ use Rattle.codec.specs.Vector.{vectorAt}
 use Rattle.codec.specs.Material.{materialBytes, materialAt}
 use Rattle.codec.specs.Light.{lightBytes, lightAt}
 use Rattle.codec.proofs.Laws.Little.{length-littleBytes, numberAt-lt}
-use Rattle.image_parts.specs.Entry.{entryBytes, entryAt}
-use Rattle.image_parts.specs.Lists.{listAt}
-use Rattle.image_parts.proofs.Items.{length-listAt}
-use Rattle.image_parts.proofs.Meaning.{WrittenAsRead}
-use Rattle.image.proofs.Items.{listBytes-append, length-listBytes}
+use Rattle.image_lists.specs.Entry.{entryBytes, entryAt}
+use Rattle.image_lists.specs.Lists.{listAt}
+use Rattle.image_lists.proofs.Reading.{length-listAt}
+use Rattle.image_reasons.proofs.Meaning.{WrittenAsRead}
+use Rattle.image_lists.proofs.Writing.{listBytes-append, length-listBytes}
 use Rattle.image_laws.proofs.IsAt.{IsAt, join, list-is, number-is}
 use Rattle.image_laws.proofs.Words.{bits, matrixWords, materialWords, lightFloats, wordBytes, matrix-words, material-words, light-words, entry-words}
 

@@ -15,9 +15,9 @@ use Rattle.d3d9_types.specs.declared.light.D3DLIGHT9.{D3DLIGHT9}
 use Rattle.d3d9_types.specs.declared.material.D3DMATERIAL9.{D3DMATERIAL9}
 use Rattle.d3d9_types.specs.declared.matrix.D3DMATRIX.{D3DMATRIX}
 use Rattle.light_table.specs.declared.entry.OverflowLight.{OverflowLight}
-use Rattle.image_parts.specs.Entry.{entryBytes}
-use Rattle.image_parts.specs.Lists.{listBytes}
-use Rattle.image_parts.specs.Reasons.{refused}
+use Rattle.image_lists.specs.Entry.{entryBytes}
+use Rattle.image_lists.specs.Lists.{listBytes}
+use Rattle.image_reasons.specs.Reasons.{refused}
 use Rattle.image.specs.Format.{imageBytes, imageTable}
 use Rattle.image.specs.Read.{stateOf}
 use Rattle.image.specs.Table.{Field, tableBytes}

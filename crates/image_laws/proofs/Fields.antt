@@ -22,11 +22,11 @@ use Rattle.light_table.specs.Entry.{zeroEntry}
 use Rattle.light_table.specs.declared.entry.OverflowLight.{OverflowLight}
 use Rattle.ff_state.specs.State.{noMatrix}
 use Rattle.ff_state.specs.declared.state.FfState.{FfState}
-use Rattle.image_parts.specs.Entry.{entryBytes, entryAt}
-use Rattle.image_parts.specs.Lists.{listBytes, listAt}
-use Rattle.image_parts.proofs.Back.{entryFits, matrices-start, lights-start, entries-start}
-use Rattle.image_parts.proofs.Entry.{entryAt-skips}
-use Rattle.image_parts.proofs.Items.{listAt-skips}
+use Rattle.image_lists.specs.Entry.{entryBytes, entryAt}
+use Rattle.image_lists.specs.Lists.{listBytes, listAt}
+use Rattle.image_lists.proofs.Back.{entryFits, matrices-start, lights-start, entries-start}
+use Rattle.image_lists.proofs.Entry.{entryAt-skips}
+use Rattle.image_lists.proofs.Reading.{listAt-skips}
 use Rattle.image.specs.Format.{imageBytes, imageTable, Sized}
 use Rattle.image.specs.Table.{field}
 use Rattle.image.proofs.Format.{image-holds}

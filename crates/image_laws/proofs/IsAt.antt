@@ -9,7 +9,7 @@ use lib.ListN.{length, getD, take, drop, length-append, length-drop}
 use lib.Seq.{length-take-le, take-append-seam, drop-append-seam, take-take, take-add, drop-at, drop-drop, getD-take, getD-drop}
 use Rattle.codec.specs.Little.{littleBytes, littleNumber, numberAt, Bytes}
 use Rattle.codec.proofs.Laws.Little.{length-littleBytes, littleNumber-littleBytes, littleBytes-littleNumber}
-use Rattle.image_parts.specs.Lists.{listBytes, listAt}
+use Rattle.image_lists.specs.Lists.{listBytes, listAt}
 use Rattle.image.specs.Table.{Field, tableBytes, Tiles}
 use Rattle.image.proofs.Held.{Holds}
 

@@ -10,7 +10,7 @@ use borrow.Author.Tests.{eqb-true, eqb-false}
 use Rattle.lemmas.proofs.Branch.{branch}
 use Rattle.words.specs.Bits.{hasBit}
 use Rattle.words.proofs.Words.{with-bit-lt, has-with-bit, has-bit-suc}
-use Rattle.image_parts.specs.Masks.{maskOf}
+use Rattle.image_lists.specs.Masks.{maskOf}
 
 module _ (p : ℕ → Bool) where
   pub mask-lt : (n : ℕ) → maskOf n p < 2 ^ n

@@ -1,32 +1,30 @@
--- Bytes that pass the tests of an image: what was written for a light, an entry or a matrix at a place passes there, and bytes that pass every test are not refused.
+-- Bytes that pass the tests of an image: what was written for a light, an entry or a matrix at a place passes there.
 -- Assumes nothing.
 use Prim.Native.Nat.{ℕ, zero, suc, _+_, _-_, _*_, _≤_, _<_}
 use native.Mathlib.Nat.{mul-suc, mul-zero, mul-assoc}
 use native.Mathlib.Omega.{arith}
 use mathlib.Core.Path.{_≡_, refl}
-use mathlib.Core.Bool.{Bool, true, false, not, _&&_, _||_}
+use mathlib.Core.Bool.{Bool, true, false}
 use mathlib.Core.List.{List, [], _∷_}
 use lib.Dec.{ltb}
 use lib.ListN.{length, getD}
-use borrow.Author.Tests.{ltb-true, ltb-false, le-ltb, eq-eqb}
+use borrow.Author.Tests.{ltb-true, ltb-false, eq-eqb}
 use Rattle.d3d9_types.specs.Light.{lightFits}
 use Rattle.d3d9_types.specs.Material.{materialFits}
 use Rattle.d3d9_types.specs.Matrix.{matrixFits}
 use Rattle.d3d9_types.specs.declared.light.D3DLIGHT9.{D3DLIGHT9}
 use Rattle.d3d9_types.specs.declared.material.D3DMATERIAL9.{D3DMATERIAL9}
 use Rattle.d3d9_types.specs.declared.matrix.D3DMATRIX.{D3DMATRIX}
-use Rattle.codec.specs.Little.{littleBytes, numberAt}
+use Rattle.codec.specs.Little.{littleBytes}
 use Rattle.codec.specs.Matrix.{matrixBytes}
 use Rattle.codec.specs.Material.{materialBytes}
 use Rattle.codec.specs.Light.{lightBytes}
 use Rattle.light_table.specs.declared.entry.OverflowLight.{OverflowLight}
-use Rattle.image_parts.specs.Entry.{entryBytes}
-use Rattle.image_parts.specs.Every.{every}
-use Rattle.image_parts.specs.Length.{imageLength}
-use Rattle.image_parts.specs.Lists.{listBytes}
-use Rattle.image_parts.specs.Tests.{plainAt, nanFree, lightsNanFree, entriesNanFree, ascends, flags, zeros, same, sameByte, bitsDefined, slotsDefault}
-use Rattle.image_parts.specs.Reasons.{countOf, numbersRefused, entriesRefused, slotsRefused, anotherNaN, refused}
-use Rattle.image_parts.proofs.Every.{every-is, every-holds}
+use Rattle.image_lists.specs.Entry.{entryBytes}
+use Rattle.image_reasons.specs.Every.{every}
+use Rattle.image_lists.specs.Lists.{listBytes}
+use Rattle.image_reasons.specs.Tests.{plainAt, nanFree, same, sameByte}
+use Rattle.image_reasons.proofs.Every.{every-is, every-holds}
 use Rattle.image_laws.proofs.IsAt.{IsAt, byte-is, behind}
 use Rattle.image_laws.proofs.Words.{wordBytes, matrixWords, materialWords, lightFloats, matrix-words, material-words, light-words, entry-words, matrix-plain, material-plain, light-plain, plain-pass}
 
@@ -80,42 +78,3 @@ unfolding same
 is-same ws bytes at h =
     every-is (sameByte ws bytes at) (length ws)
     (λ (i : ℕ) (l : i < length ws). eq-eqb (getD bytes (at + i) 0) (getD ws i 0) (byte-is ws bytes at i h l))
-
--- ---- all of them
-
-pub record Passes (bytes : List ℕ) : Type 0 where
-  pub long : length bytes ≡ imageLength
-  pub dirty : numberAt 1 bytes 17_926 ≤ 63
-  pub zero : numberAt 1 bytes 17_927 ≡ 0
-  pub index : numberAt 2 bytes 17_928 ≤ 255
-  pub count : countOf bytes ≤ 56
-  pub sorted : ascends (countOf bytes) bytes 17_932 ≡ true
-  pub enables : flags (countOf bytes) bytes 17_932 ≡ true
-  pub unused : zeros (6_272 - 112 * countOf bytes) bytes (17_932 + 112 * countOf bytes) ≡ true
-  pub enabled-defined : bitsDefined (numberAt 1 bytes 17_924) (numberAt 1 bytes 17_925) ≡ true
-  pub undefined-default : slotsDefault (numberAt 1 bytes 17_925) bytes 17_092 ≡ true
-  pub floats : nanFree 4_273 bytes 0 ≡ true
-  pub light-floats : lightsNanFree bytes 17_092 ≡ true
-  pub entry-floats : entriesNanFree bytes 17_932 ≡ true
-
-neither : {a b : Bool} → a ≡ false → b ≡ false → (a || b) ≡ false
-neither p q = rw (p, q)
-
-both : {a b : Bool} → a ≡ true → b ≡ true → (a && b) ≡ true
-both p q = rw (p, q)
-
-passed : {t : Bool} → t ≡ true → not t ≡ false
-passed p = rw p
-
-pub passes : (bytes : List ℕ) → Passes bytes → refused bytes ≡ false
-unfolding refused numbersRefused entriesRefused slotsRefused anotherNaN
-passes bytes p =
-    let n = countOf bytes in
-    let length-is = passed (eq-eqb (length bytes) imageLength (p .long)) in
-    let dirty-is = le-ltb 63 (numberAt 1 bytes 17_926) (p .dirty) in
-    let zero-is = passed (eq-eqb (numberAt 1 bytes 17_927) 0 (p .zero)) in
-    let numbers = neither dirty-is (neither zero-is (neither (le-ltb 255 (numberAt 2 bytes 17_928) (p .index)) (le-ltb 56 n (p .count)))) in
-    let entries = neither (passed (p .sorted)) (neither (passed (p .enables)) (passed (p .unused))) in
-    let slots = neither (passed (p .enabled-defined)) (passed (p .undefined-default)) in
-    let nans = passed (both (p .floats) (both (p .light-floats) (p .entry-floats))) in
-    neither length-is (neither numbers (neither entries (neither slots nans)))

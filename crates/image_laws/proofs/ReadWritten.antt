@@ -16,8 +16,8 @@ use Rattle.light_table.specs.Entry.{zeroEntry}
 use Rattle.light_table.specs.declared.entry.OverflowLight.{OverflowLight}
 use Rattle.ff_state.specs.Valid.{Valid}
 use Rattle.ff_state.specs.declared.state.FfState.{FfState}
-use Rattle.image_parts.specs.Masks.{setMask, typeMask, slotSet, slotIs}
-use Rattle.image_parts.proofs.Back.{entryFits}
+use Rattle.image_lists.specs.Masks.{setMask, typeMask, slotSet, slotIs}
+use Rattle.image_lists.proofs.Back.{entryFits}
 use Rattle.image.specs.Format.{imageBytes}
 use Rattle.image.specs.Read.{stateOf, lightsOf, definedOf}
 use Rattle.image.proofs.Format.{valid-sized}

@@ -9,8 +9,8 @@ use borrow.Author.Tests.{eq-eqb}
 use Rattle.codec.specs.Little.{Bytes}
 use Rattle.ff_state.specs.Valid.{Valid}
 use Rattle.ff_state.specs.declared.state.FfState.{FfState}
-use Rattle.image_parts.specs.Length.{imageLength}
-use Rattle.image_parts.specs.Reasons.{refused}
+use Rattle.image_reasons.specs.Length.{imageLength}
+use Rattle.image_reasons.specs.Reasons.{refused}
 use Rattle.image.specs.Format.{imageBytes}
 use Rattle.image.specs.Read.{stateOf, readImage}
 use Rattle.image.specs.Write.{Outcome, outcome, writeImage}

@@ -23,22 +23,23 @@ use Rattle.light_table.specs.declared.entry.OverflowLight.{OverflowLight}
 use Rattle.ff_state.specs.State.{noMatrix}
 use Rattle.ff_state.specs.Valid.{Valid, slotLight}
 use Rattle.ff_state.specs.declared.state.FfState.{FfState}
-use Rattle.image_parts.specs.Entry.{entryBytes, entryAt}
-use Rattle.image_parts.specs.Length.{imageLength}
-use Rattle.image_parts.specs.Lists.{listBytes, listAt}
-use Rattle.image_parts.specs.Tests.{nanFree, lightsNanFree, plainLight, entriesNanFree, plainEntry, ascends, flags, flagAt, zeros, zeroByte, bitsDefined, bitDefined, slotsDefault, slotDefault, defaultAt}
-use Rattle.image_parts.specs.Reasons.{countOf, refused}
-use Rattle.image_parts.proofs.Every.{every-is}
-use Rattle.image_parts.proofs.Entry.{length-entryBytes}
-use Rattle.image_parts.proofs.Items.{getD-listAt, take-listAt}
-use Rattle.image_parts.proofs.Unused.{zero-bytes}
+use Rattle.image_lists.specs.Entry.{entryBytes, entryAt}
+use Rattle.image_reasons.specs.Length.{imageLength}
+use Rattle.image_lists.specs.Lists.{listBytes, listAt}
+use Rattle.image_reasons.specs.Tests.{nanFree, lightsNanFree, plainLight, entriesNanFree, plainEntry, ascends, flags, flagAt, zeros, zeroByte, bitsDefined, bitDefined, slotsDefault, slotDefault, defaultAt}
+use Rattle.image_reasons.specs.Reasons.{countOf, refused}
+use Rattle.image_reasons.proofs.Accepted.{Accepted, not-refused}
+use Rattle.image_reasons.proofs.Every.{every-is}
+use Rattle.image_lists.proofs.Entry.{length-entryBytes}
+use Rattle.image_lists.proofs.Reading.{getD-listAt, take-listAt}
+use Rattle.image_reasons.proofs.Unused.{zero-bytes}
 use Rattle.image.specs.Format.{imageBytes}
 use Rattle.image.specs.Read.{stateOf}
 use Rattle.image.proofs.Format.{valid-sized, length-imageBytes}
 use Rattle.image_laws.proofs.IsAt.{IsAt, held-is, item-is, byte-is}
 use Rattle.image_laws.proofs.Fields.{Written, written, number-reads}
 use Rattle.image_laws.proofs.ReadWritten.{unused-is, read-written}
-use Rattle.image_laws.proofs.Passes.{matrix-pass, material-pass, light-pass, entry-pass, nan-join, nan-items, is-same, Passes, passes}
+use Rattle.image_laws.proofs.Passes.{matrix-pass, material-pass, light-pass, entry-pass, nan-join, nan-items, is-same}
 
 implies : (a b : Bool) → (a ≡ true → b ≡ true) → (not a || b) ≡ true
 implies true b h = h refl
@@ -139,7 +140,7 @@ module _ (s : FfState) (v : Valid s) (bytes : List ℕ) (w : Written s bytes) wh
         rw place (byte-is (replicate 112 0) bytes (17_932 + 112 * k) r is (omega arith) ∙ getD-replicate 112 r 0 0 (omega arith)) in
         eq-eqb (getD bytes (17_932 + 112 * n + j) 0) 0 zero)
 
-  written-passes : length bytes ≡ imageLength → stateOf bytes ≡ s → Passes bytes
+  written-passes : length bytes ≡ imageLength → stateOf bytes ≡ s → Accepted bytes
   unfolding stateOf
   written-passes long read =
       let count : countOf bytes ≡ s .«overflow_count» = ap (λ (t : FfState). t .«overflow_count») read in
@@ -167,4 +168,4 @@ module _ (s : FfState) (v : Valid s) (bytes : List ℕ) (w : Written s bytes) wh
 pub valid-accepted : (s : FfState) → Valid s → refused (imageBytes s) ≡ false
 valid-accepted s v =
     let z = valid-sized v in
-    passes (imageBytes s) (written-passes s v (imageBytes s) (written s z) (length-imageBytes s z) (read-written s v))
+    not-refused (imageBytes s) (written-passes s v (imageBytes s) (written s z) (length-imageBytes s z) (read-written s v))

@@ -32,10 +32,10 @@ use Rattle.codec.specs.Material.{materialBytes}
 use Rattle.codec.specs.Light.{lightBytes}
 use Rattle.codec.proofs.Laws.Little.{length-littleBytes}
 use Rattle.light_table.specs.declared.entry.OverflowLight.{OverflowLight}
-use Rattle.image_parts.specs.Entry.{entryBytes}
-use Rattle.image_parts.specs.Lists.{listBytes}
-use Rattle.image_parts.specs.Tests.{plainWord, plainAt, nanFree}
-use Rattle.image_parts.proofs.Every.{every-is}
+use Rattle.image_lists.specs.Entry.{entryBytes}
+use Rattle.image_lists.specs.Lists.{listBytes}
+use Rattle.image_reasons.specs.Tests.{plainWord, plainAt, nanFree}
+use Rattle.image_reasons.proofs.Every.{every-is}
 use Rattle.image_laws.proofs.IsAt.{IsAt, item-is, is-number}
 
 abbrev pub bits : Float → ℕ

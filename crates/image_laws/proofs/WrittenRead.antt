@@ -13,12 +13,13 @@ use Rattle.codec.specs.Matrix.{matrixBytes, matrixAt}
 use Rattle.codec.specs.Light.{lightBytes, lightAt}
 use Rattle.codec.proofs.Laws.Matrix.{length-matrixBytes}
 use Rattle.codec.proofs.Laws.Light.{length-lightBytes}
-use Rattle.image_parts.specs.Entry.{entryBytes, entryAt}
-use Rattle.image_parts.specs.Length.{imageLength}
-use Rattle.image_parts.specs.Lists.{listBytes, listAt}
-use Rattle.image_parts.specs.Reasons.{refused}
-use Rattle.image_parts.proofs.Accepted.{Accepted, accepted}
-use Rattle.image_parts.proofs.Entry.{length-entryBytes}
+use Rattle.image_lists.specs.Entry.{entryBytes, entryAt}
+use Rattle.image_reasons.specs.Length.{imageLength}
+use Rattle.image_lists.specs.Lists.{listBytes, listAt}
+use Rattle.image_reasons.specs.Reasons.{refused}
+use Rattle.image_reasons.proofs.Accepted.{Accepted, accepted}
+use Rattle.image_reasons.proofs.Meaning.{floats-back, light-floats-back, entry-floats-back}
+use Rattle.image_lists.proofs.Entry.{length-entryBytes}
 use Rattle.image.specs.Format.{imageBytes, imageTable}
 use Rattle.image.specs.Read.{stateOf}
 use Rattle.image.proofs.Format.{image-tiles, length-imageBytes, valid-sized}
@@ -30,8 +31,8 @@ module _ (bytes : List ℕ) (b : Bytes bytes) (a : Accepted bytes) where
   -- n floats from the q-th on
   floats-from : (q n at : ℕ) → at ≡ 4 * q → q + n ≤ 4_273 → FloatsBack bytes n at
   floats-from q n at e most k l =
-      let place : at + 4 * k ≡ 4 * (q + k) = omega arith in
-      rw place (a .floats (q + k) (omega arith))
+      let place : at + 4 * k ≡ 0 + 4 * (q + k) = omega arith in
+      rw place (floats-back 4_273 bytes 0 (a .floats) (q + k) (omega arith))
 
   matrix-is : (q at : ℕ) → at ≡ 4 * q → q + 16 ≤ 4_273 → IsAt (matrixBytes (matrixAt bytes at)) bytes at
   matrix-is q at e most = matrix-back bytes b at (omega (arith, a .long)) (floats-from q 16 at e most)
@@ -43,12 +44,12 @@ module _ (bytes : List ℕ) (b : Bytes bytes) (a : Accepted bytes) where
   lights-are : IsAt (listBytes lightBytes (listAt lightAt 104 8 bytes 17_092)) bytes 17_092
   lights-are =
       list-is lightBytes 104 length-lightBytes lightAt bytes 8 17_092
-      (λ (i : ℕ) (l : i < 8). light-back bytes b (17_092 + 104 * i) (omega (arith, a .long)) (λ (k : ℕ) (m : k < 25). a .light-floats i k l m))
+      (λ (i : ℕ) (l : i < 8). light-back bytes b (17_092 + 104 * i) (omega (arith, a .long)) (λ (k : ℕ) (m : k < 25). light-floats-back bytes 17_092 (a .light-floats) i k l m))
 
   entries-are : IsAt (listBytes entryBytes (listAt entryAt 112 56 bytes 17_932)) bytes 17_932
   entries-are =
       list-is entryBytes 112 length-entryBytes entryAt bytes 56 17_932
-      (λ (i : ℕ) (l : i < 56). entry-back bytes b (17_932 + 112 * i) (omega (arith, a .long)) (λ (k : ℕ) (m : k < 25). a .entry-floats i k l m))
+      (λ (i : ℕ) (l : i < 56). entry-back bytes b (17_932 + 112 * i) (omega (arith, a .long)) (λ (k : ℕ) (m : k < 25). entry-floats-back bytes 17_932 (a .entry-floats) i k l m))
 
   number-at : (k at : ℕ) → at + k ≤ imageLength → IsAt (littleBytes k (numberAt k bytes at)) bytes at
   number-at k at room = number-is k bytes at b (rw (a .long) room)

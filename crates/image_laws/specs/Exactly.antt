@@ -6,7 +6,7 @@ use mathlib.Core.List.{List}
 use Rattle.codec.specs.Little.{Bytes}
 use Rattle.ff_state.specs.Valid.{Valid}
 use Rattle.ff_state.specs.declared.state.FfState.{FfState}
-use Rattle.image_parts.specs.Reasons.{refused}
+use Rattle.image_reasons.specs.Reasons.{refused}
 use Rattle.image.specs.Format.{imageBytes}
 
 -- each number is a byte, and no reason refuses them

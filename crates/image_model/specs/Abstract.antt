@@ -13,8 +13,8 @@ use Rattle.codec.specs.Light as Codec
 use Rattle.words.specs.Bits.{hasBit}
 use Rattle.d3d9_model.specs.State.{AbstractState, AbstractLight}
 use Rattle.d3d9_model.specs.Lights.{lightAt}
-use Rattle.image_parts.specs.Lists.{listAt}
-use Rattle.image_parts.specs.Reasons.{countOf, refused}
+use Rattle.image_lists.specs.Lists.{listAt}
+use Rattle.image_reasons.specs.Reasons.{countOf, refused}
 
 -- "view 0, projection 64, palette 128, texture 16,512", by state number: "state 2 view, 3 projection, 16 to 23 texture, 256 to 511 palette". No other number has a matrix; the fresh book's stands there.
 unfoldable pub imageMatrix : List ℕ → ℕ → D3DMATRIX

@@ -11,7 +11,7 @@ use lib.Seq.{length-take-le}
 use Rattle.sections.specs.declared.sections.Section.{Section}
 use Rattle.ff_state.specs.declared.state.FfState.{FfState}
 use Rattle.image.specs.Read.{stateOf}
-use Rattle.image_parts.specs.Reasons.{refused}
+use Rattle.image_reasons.specs.Reasons.{refused}
 use Rattle.calls.specs.Answer.{answered, orNext}
 use Rattle.calls.specs.Call.{callCode, reading}
 use Rattle.calls.proofs.Answers.{length-right, length-wrong}

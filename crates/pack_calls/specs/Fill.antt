@@ -3,7 +3,7 @@ use Prim.Native.Nat.{ℕ, _*_}
 use mathlib.Core.Bool.{cond}
 use mathlib.Core.List.{List}
 use Rattle.codec.specs.Float.{floatBytes}
-use Rattle.image_parts.specs.Lists.{listBytes}
+use Rattle.image_lists.specs.Lists.{listBytes}
 use Rattle.sections.specs.declared.sections.Section.{Section}
 use Rattle.ff_state.specs.declared.state.FfState.{FfState}
 use Rattle.calls.specs.Answer.{Answer, orNext, lengthNumber}

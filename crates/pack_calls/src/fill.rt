@@ -10,7 +10,7 @@ use crate::floats::put_floats;
 use crate::key::key_of;
 use ff_state::FfState;
 use image::state_of;
-use image_parts::image_refused;
+use image_reasons::image_refused;
 use packing::PackAnswer;
 use packing::pack_section;
 use sections::FfVsKey;

@@ -4,7 +4,7 @@ ghost use Prim.Native.Nat.{_+_, _*_, _≤_};
 ghost use lib.ListN.{length};
 ghost use Rattle.codec.specs.Float.{floatBytes};
 ghost use Rattle.codec.specs.Put.{put};
-ghost use Rattle.image_parts.specs.Lists.{listBytes};
+ghost use Rattle.image_lists.specs.Lists.{listBytes};
 use codec::put_f32;
 
 pub fn put_floats(dst: &mut [u8], at: usize, xs: &[f32])

@@ -4,7 +4,7 @@ ghost use Rattle.calls.specs.Answer.{answer};
 ghost use Rattle.pack_calls.specs.Key.{keyOf};
 ghost use Rattle.pack_calls.specs.RowCounts.{ffSectionRows, ffVsRowCount};
 use crate::key::key_of;
-use image_parts::image_refused;
+use image_reasons::image_refused;
 use sections::FfVsKey;
 use sections::NO_TEXTURES;
 use sections::Section;

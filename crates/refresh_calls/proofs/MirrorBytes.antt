@@ -20,9 +20,9 @@ use Rattle.codec.proofs.Inside.{where-put}
 use Rattle.codec.proofs.Laws.Float.{floatAt-skips, floatAt-starts}
 use Rattle.codec.proofs.Laws.Little.{length-littleBytes}
 use Rattle.codec.proofs.Put.{length-put, read-before, drop-behind}
-use Rattle.image_parts.specs.Lists.{listBytes, listAt}
-use Rattle.image_parts.proofs.Items.{length-listAt, getD-listAt, listAt-skips, listAt-starts}
-use Rattle.image.proofs.Items.{length-listBytes}
+use Rattle.image_lists.specs.Lists.{listBytes, listAt}
+use Rattle.image_lists.proofs.Reading.{length-listAt, getD-listAt, listAt-skips, listAt-starts}
+use Rattle.image_lists.proofs.Writing.{length-listBytes}
 use Rattle.sections.specs.Sections.{hasSection}
 use Rattle.ff_state.specs.Valid.{Valid}
 use Rattle.sections.specs.declared.sections.Section.{Section}

@@ -7,7 +7,7 @@ use mathlib.Core.List.{List}
 use lib.ListN.{length}
 use Rattle.ff_state.specs.Dirty.{takeFfVsDirty}
 use Rattle.sections.specs.Sections.{sections}
-use Rattle.image_parts.specs.Reasons.{refused}
+use Rattle.image_reasons.specs.Reasons.{refused}
 use Rattle.image.specs.Format.{imageBytes}
 use Rattle.image.specs.Read.{stateOf}
 use Rattle.calls.specs.Answer.{answer, orNext}

@@ -8,7 +8,7 @@ use mathlib.Core.List.{List, [], _++_}
 use lib.ListN.{length, take, drop, length-drop, take-append-drop}
 use lib.Seq.{length-take-le}
 use Rattle.codec.specs.Put.{put}
-use Rattle.image_parts.specs.Lists.{listBytes}
+use Rattle.image_lists.specs.Lists.{listBytes}
 use Rattle.sections.specs.Sections.{sections, hasSection}
 use Rattle.sections.specs.declared.sections.Section.the-variants.{Wv, Proj, Material, Lights, Palette, Tt}
 use Rattle.ff_state.specs.declared.state.FfState.{FfState}

@@ -5,7 +5,7 @@ use mathlib.Core.List.{List, [], _∷_}
 use lib.Ieee.{Float}
 use Rattle.codec.specs.Float.{floatBytes, floatAt}
 use Rattle.codec.specs.Put.{put}
-use Rattle.image_parts.specs.Lists.{listBytes, listAt}
+use Rattle.image_lists.specs.Lists.{listBytes, listAt}
 use Rattle.sections.specs.Sections.{hasSection}
 use Rattle.sections.specs.declared.sections.Section.{Section}
 use Rattle.ff_state.specs.declared.state.FfState.{FfState}

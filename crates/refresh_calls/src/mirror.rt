@@ -6,7 +6,7 @@ ghost use Rattle.refresh_calls.specs.Mirror.{left, ffRefresh};
 use crate::written::write_section_bytes;
 use calls::put_state;
 use image::state_of;
-use image_parts::image_refused;
+use image_reasons::image_refused;
 use pack_calls::key_of;
 use refresh::RefreshAnswer;
 use refresh::refresh_answer;

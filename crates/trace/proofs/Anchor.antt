@@ -28,7 +28,7 @@ use Rattle.ff_state.proofs.state.FfState.set_material.Reads as set-material-rea
 use Rattle.ff_state.proofs.state.FfState.mark_ff_vs_dirty.Reads as mark-reads
 use Rattle.ff_lights.proofs.set_light_at.Reads as set-light-reads
 use Rattle.ff_lights.proofs.set_light_enabled_at.Reads as enable-light-reads
-use Rattle.image_parts.specs.Length.{imageLength}
+use Rattle.image_reasons.specs.Length.{imageLength}
 use Rattle.image.specs.Read.{readImage}
 use Rattle.image.specs.Write.{outcome, writeImage}
 use Rattle.image.specs.declared.read.ImageRead.{ImageRead}

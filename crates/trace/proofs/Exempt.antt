@@ -12,7 +12,7 @@ use borrow.Author.Tests.{ltb-true, leb-true}
 use Rattle.lemmas.proofs.Tests.{and-false, both, either}
 use Rattle.lemmas.proofs.Branch.{branch}
 use Rattle.sections.specs.declared.sections.Section.{Section}
-use Rattle.image_parts.specs.Reasons.{refused}
+use Rattle.image_reasons.specs.Reasons.{refused}
 use Rattle.sections.specs.Sections.{firstRow}
 use Rattle.sections.specs.declared.key.FfVsKey.{FfVsKey}
 use Rattle.d3d9_model.specs.Operations.{Operation}

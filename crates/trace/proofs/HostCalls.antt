@@ -17,7 +17,7 @@ use Rattle.codec.specs.Light.{lightAt}
 use Rattle.codec.proofs.Laws.Matrix.{matrixAt-fits}
 use Rattle.codec.proofs.Laws.Material.{materialAt-fits}
 use Rattle.codec.proofs.Laws.Light.{lightAt-fits}
-use Rattle.image_parts.specs.Reasons as Reasons
+use Rattle.image_reasons.specs.Reasons as Reasons
 use Rattle.ff_state.specs.Dirty.{takeFfVsDirty}
 use Rattle.sections.specs.Sections.{sections}
 use Rattle.ff_state.specs.declared.state.FfState.{FfState}

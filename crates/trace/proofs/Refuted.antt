@@ -17,7 +17,7 @@ use Rattle.d3d9_types.specs.Matrix.{identity, matrixFits, identity-fits}
 use Rattle.d3d9_types.specs.declared.matrix.D3DMATRIX.{D3DMATRIX}
 use Rattle.codec.specs.Little.{Bytes, littleNumber}
 use Rattle.codec.specs.Float.{floatAt}
-use Rattle.image_parts.specs.Lists.{listAt}
+use Rattle.image_lists.specs.Lists.{listAt}
 use Rattle.matrix.specs.Entry.{column, row}
 use Rattle.matrix.specs.Transposition.{transposed}
 use Rattle.ff_state.specs.Dirty.{dirtied, takeFfVsDirty}

@@ -9,7 +9,7 @@ use lib.ListN.{length}
 use Rattle.sections.specs.declared.sections.Section.the-variants.{Lights}
 use Rattle.ff_state.specs.declared.state.FfState.{FfState}
 use Rattle.image.specs.Read.{readImage}
-use Rattle.image_parts.specs.Reasons.{refused}
+use Rattle.image_reasons.specs.Reasons.{refused}
 use Rattle.sections.specs.declared.key.FfVsKey.{FfVsKey}
 use Rattle.packing.specs.Inputs.{maskAccepted}
 use Rattle.d3d9_model.specs.State.{AbstractState}

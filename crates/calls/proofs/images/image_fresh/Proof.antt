@@ -1,7 +1,7 @@
 -- `calls::images::image_fresh` meets its contract. The length decides, and past it the whole image is written.
 -- Assumes nothing.
 use mathlib.Core.Path.{ap, _∙_}
-use Rattle.image_parts.specs.Length.{imageLength}
+use Rattle.image_reasons.specs.Length.{imageLength}
 use Rattle.image.specs.Format.{imageBytes}
 use Rattle.calls.specs.Images.{ffImageFresh}
 use Rattle.calls.proofs.Answers.{length-right, length-wrong, refused, accepted}

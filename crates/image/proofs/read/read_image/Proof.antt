@@ -3,7 +3,7 @@
 use native.Mathlib.Omega.{arith}
 use mathlib.Core.Path.{sym, ap, _∙_}
 use Rattle.ff_state.specs.declared.state.FfState.{FfState}
-use Rattle.image_parts.proofs.Accepted.{accepted}
+use Rattle.image_reasons.proofs.Accepted.{accepted}
 use Rattle.image.specs.Read.{readImage}
 use Rattle.image.specs.declared.read.ReadAnswer.the-variants.{Accepted}
 use borrow.Author.Needs.{needs}

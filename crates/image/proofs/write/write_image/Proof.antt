@@ -4,7 +4,7 @@ use native.Mathlib.Omega.{arith}
 use mathlib.Core.Path.{_≡_, sym, ap, _∙_}
 use lib.ListN.{length, length-map}
 use borrow.Author.Tests.{eq-eqb, ne-eqb}
-use Rattle.image_parts.specs.Length.{imageLength}
+use Rattle.image_reasons.specs.Length.{imageLength}
 use Rattle.image.specs.Format.{imageTable, imageBytes, Sized}
 use Rattle.image.specs.Write.{outcome, writeImage}
 use Rattle.image.specs.declared.write.WriteAnswer.the-variants.{Written}

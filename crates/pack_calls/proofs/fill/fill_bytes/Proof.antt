@@ -5,8 +5,8 @@ use mathlib.Core.Path.{sym, ap, _∙_}
 use denote.Ref.{now}
 use Rattle.codec.specs.Float.{floatBytes}
 use Rattle.codec.proofs.Put.{put-whole}
-use Rattle.image_parts.specs.Lists.{listBytes}
-use Rattle.image.proofs.Items.{length-listBytes}
+use Rattle.image_lists.specs.Lists.{listBytes}
+use Rattle.image_lists.proofs.Writing.{length-listBytes}
 use Rattle.calls.proofs.Answers.{refused, accepted}
 use Rattle.packing.specs.Pack.{packNumber}
 use Rattle.pack_calls.proofs.Width.{length-floatBytes}

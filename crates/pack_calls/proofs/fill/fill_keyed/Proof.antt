@@ -12,7 +12,7 @@ use borrow.Author.Needs.{needs}
 use Rattle.pack_calls.proofs.fill.fill_keyed.Statement.{statement}
 use Rattle.pack_calls.proofs.fill.fill_keyed.Tie as tie
 use Rattle.sections.specs.Counts.{sectionRows}
-use Rattle.image_parts.specs.Reasons.{refused}
+use Rattle.image_reasons.specs.Reasons.{refused}
 use mathlib.Core.Bool.{false}
 
 abbrev begin : tie.After-section-rows → tie.Start

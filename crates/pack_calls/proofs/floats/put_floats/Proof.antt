@@ -6,7 +6,7 @@ use mathlib.Core.Path.{refl}
 use denote.Ref.{now}
 use lib.ListN.{length}
 use Rattle.codec.specs.Float.{floatBytes}
-use Rattle.image.proofs.Items.{Stands, begins, goes-on, ends}
+use Rattle.image_lists.proofs.Writing.{Stands, begins, goes-on, ends}
 use Rattle.pack_calls.proofs.Width.{length-floatBytes}
 use Rattle.pack_calls.proofs.floats.put_floats.Statement.{statement}
 use Rattle.pack_calls.proofs.floats.put_floats.Tie as tie

@@ -11,7 +11,7 @@ use Rattle.ff_state.specs.declared.dirty.Taken.{Taken}
 use Rattle.ff_state.specs.declared.state.FfState.{FfState}
 use Rattle.image.specs.Format.{imageBytes}
 use Rattle.image.specs.Read.{stateOf}
-use Rattle.image_parts.specs.Reasons.{refused}
+use Rattle.image_reasons.specs.Reasons.{refused}
 use Rattle.refresh.specs.Answer.{refreshAnswer, refreshNumber}
 use Rattle.refresh.proofs.Answers.{accepted-fits}
 use Rattle.calls.proofs.Calls.{image-long, image-fits}

@@ -5,7 +5,7 @@ use native.Mathlib.Omega.{arith}
 use mathlib.Core.Path.{_≡_, sym, ap, _∙_}
 use lib.ListN.{length, length-map}
 use Rattle.codec.specs.Float.{floatBytes}
-use Rattle.image.proofs.Items.{length-listBytes}
+use Rattle.image_lists.proofs.Writing.{length-listBytes}
 use Rattle.sections.specs.Counts.{sectionRows}
 use Rattle.sections.specs.Sections.{firstRow}
 use Rattle.sections.proofs.Tiles.{fits-mirror}

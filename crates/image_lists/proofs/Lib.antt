@@ -1,0 +1,5 @@
+pub mod Reading
+pub mod Writing
+pub mod Entry
+pub mod Back
+pub mod Mask

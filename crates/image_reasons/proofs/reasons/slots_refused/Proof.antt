@@ -1,0 +1,37 @@
+-- `image_reasons::reasons::slots_refused` meets its contract. The masks are the bytes at their places; each test is the definition's.
+-- Assumes nothing.
+use borrow.Author.Needs.{needs}
+use Rattle.image_reasons.specs.Reasons.{slotsRefused}
+use Rattle.image_reasons.proofs.reasons.slots_refused.Statement.{statement}
+use Rattle.image_reasons.proofs.reasons.slots_refused.Tie as tie
+
+u8-at-requires : tie.Need-u8-at-requires
+u8-at-requires c κs = search needs
+
+u8-at-requires-2 : tie.Need-u8-at-requires-2
+u8-at-requires-2 c κs = search needs
+
+bits-defined-requires : tie.Need-bits-defined-requires
+bits-defined-requires c κs = search needs
+
+returns : tie.Need-returns
+unfolding slotsRefused
+returns c = rw (← c .before .before .before .u8-at .ensures, ← c .before .before .u8-at2 .ensures, ← c .before .bits-defined .ensures, c .if1 .taken)
+
+slots-default-requires : tie.Need-slots-default-requires
+slots-default-requires c κs = search needs
+
+returns-2 : tie.Need-returns-2
+unfolding slotsRefused
+returns-2 c = rw (← c .before .before .before .before .u8-at .ensures, ← c .before .before .before .u8-at2 .ensures, ← c .before .before .bits-defined .ensures, c .before .if1 .left, ← c .slots-default .ensures)
+
+pub slots-refused-spec : {M : Type 1} → statement M
+slots-refused-spec =
+    tie.close
+    (tie.spec
+    u8-at-requires
+    u8-at-requires-2
+    bits-defined-requires
+    returns
+    slots-default-requires
+    returns-2)

@@ -1,0 +1,4 @@
+pub mod Length
+pub mod Every
+pub mod Tests
+pub mod Reasons
