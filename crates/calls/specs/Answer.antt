@@ -1,4 +1,4 @@
--- What a host's call leaves: its number, and what stands in the place that it was lent. HOST-ABI.md, 'Conventions'.
+-- What a host's call leaves: its number, and what stands in the place that it was lent. docs/INTERFACE.md, 'Conventions'.
 use Prim.Native.Nat.{ℕ, zero, suc}
 use mathlib.Core.Bool.{cond}
 use mathlib.Core.List.{List}

@@ -1,4 +1,4 @@
--- `ff_image_fresh` and `ff_image_check` of HOST-ABI.md.
+-- `ff_image_fresh` and `ff_image_check` of docs/INTERFACE.md.
 use Prim.Native.Nat.{ℕ}
 use mathlib.Core.List.{List}
 use Rattle.ff_state.specs.State.{freshState}

@@ -1,4 +1,4 @@
--- The calls on lights of HOST-ABI.md: 9, then 3 for a full table or 2 for an undefined light, then 4. A light is 104 bytes.
+-- The calls on lights of docs/INTERFACE.md: 9, then 3 for a full table or 2 for an undefined light, then 4. A light is 104 bytes.
 use Prim.Native.Nat.{ℕ}
 use mathlib.Core.Bool.{not}
 use mathlib.Core.List.{List}

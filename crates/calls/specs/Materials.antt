@@ -1,4 +1,4 @@
--- The calls on the material of HOST-ABI.md: 9, then 4. A material is 68 bytes.
+-- The calls on the material of docs/INTERFACE.md: 9, then 4. A material is 68 bytes.
 use Prim.Native.Nat.{ℕ}
 use mathlib.Core.List.{List}
 use Rattle.codec.specs.Material.{materialAt, materialBytes}

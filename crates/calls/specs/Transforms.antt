@@ -1,4 +1,4 @@
--- The calls on transforms of HOST-ABI.md: 9, then 1 for an unknown state, then 4.
+-- The calls on transforms of docs/INTERFACE.md: 9, then 1 for an unknown state, then 4.
 use Prim.Native.Nat.{ℕ}
 use mathlib.Core.List.{List}
 use Rattle.codec.specs.Matrix.{matrixAt, matrixBytes}

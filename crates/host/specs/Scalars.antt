@@ -1,4 +1,4 @@
--- `ff_sqrt` and `ff_cos` of HOST-ABI.md: float bits in, float bits out.
+-- `ff_sqrt` and `ff_cos` of docs/INTERFACE.md: float bits in, float bits out.
 use Prim.Native.Nat.{ℕ}
 use lib.Ieee.{binary32, ofBits, toBits}
 use Rattle.float32.specs.Root.{sqrtOf}

@@ -1,1 +1,2 @@
 pub mod OnImage
+pub mod Reachable

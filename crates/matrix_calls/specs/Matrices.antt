@@ -1,4 +1,4 @@
--- The calls on matrices of HOST-ABI.md: a matrix is 64 bytes, and `ff_inverse` refuses 6 after 4.
+-- The calls on matrices of docs/INTERFACE.md: a matrix is 64 bytes, and `ff_inverse` refuses 6 after 4.
 use Prim.Native.Nat.{ℕ}
 use mathlib.Core.List.{List}
 use Rattle.matrix.specs.Product.{matMul}

@@ -1,4 +1,4 @@
--- The fills of HOST-ABI.md: 9, then 4 for a slice that is not the section's rows of 16 bytes, then for the lights 5.
+-- The fills of docs/INTERFACE.md: 9, then 4 for a slice that is not the section's rows of 16 bytes, then for the lights 5.
 use Prim.Native.Nat.{ℕ, _*_}
 use mathlib.Core.Bool.{cond}
 use mathlib.Core.List.{List}

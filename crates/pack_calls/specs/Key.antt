@@ -1,4 +1,4 @@
--- A key from seven numbers. HOST-ABI.md, 'Conventions': "a flag is set by any number but 0".
+-- A key from seven numbers. docs/INTERFACE.md, 'Conventions': "a flag is set by any number but 0".
 use Prim.Native.Nat.{ℕ}
 use mathlib.Core.Bool.{not}
 use lib.Dec.{eqb}

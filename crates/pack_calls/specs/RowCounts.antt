@@ -1,4 +1,4 @@
--- The calls on row counts of HOST-ABI.md. They refuse 9 alone.
+-- The calls on row counts of docs/INTERFACE.md. They refuse 9 alone.
 use Prim.Native.Nat.{ℕ}
 use mathlib.Core.List.{List}
 use Rattle.sections.specs.declared.sections.Section.{Section}

@@ -1,4 +1,4 @@
-// A key from seven numbers. HOST-ABI.md, 'Conventions'.
+// A key from seven numbers. docs/INTERFACE.md, 'Conventions'.
 ghost use mathlib.Core.Path.{_≡_};
 ghost use Rattle.pack_calls.specs.Key.{keyOf};
 use sections::FfVsKey;

@@ -1,4 +1,4 @@
--- The refresh of HOST-ABI.md: 9, then 4 for a mirror that is not 17,840 bytes, then 8, then 5. Accepted, the image has its bits taken, the mirror its dirty sections written, and the number is the bits; refused, all three are as found.
+-- The refresh of docs/INTERFACE.md: 9, then 4 for a mirror that is not 17,840 bytes, then 8, then 5. Accepted, the image has its bits taken, the mirror its dirty sections written, and the number is the bits; refused, all three are as found.
 use Prim.Native.Nat.{ℕ}
 use mathlib.Core.List.{List}
 use Rattle.ff_state.specs.Dirty.{takeFfVsDirty}

@@ -1,4 +1,4 @@
--- Sections written over a mirror's bytes. Document 01, 'State image': "Matrices, materials, lights, rows and mirrors cross as byte slices, four little-endian bytes a number". HOST-ABI.md: "Mirror bytes of rows that a refresh does not write keep their bytes, whatever they are."
+-- Sections written over a mirror's bytes. Document 01, 'State image': "Matrices, materials, lights, rows and mirrors cross as byte slices, four little-endian bytes a number". docs/INTERFACE.md: "Mirror bytes of rows that a refresh does not write keep their bytes, whatever they are."
 use Prim.Native.Nat.{ℕ, _*_}
 use mathlib.Core.Bool.{cond}
 use mathlib.Core.List.{List, [], _∷_}

@@ -3,6 +3,7 @@ ghost use Rattle.replay_text.specs.Answer.{Within};
 use crate::packs::fill_call;
 use crate::packs::refresh_call;
 use crate::packs::rows_call;
+use image_reasons::IMAGE_LENGTH;
 use replay_images::Reply;
 use replay_images::item_call;
 use replay_images::put_item;
@@ -51,7 +52,7 @@ fn reply(
     letter: u8,
     n: usize,
     words: &[u32; 32],
-    image: &mut [u8; 24_204],
+    image: &mut [u8; IMAGE_LENGTH],
     item: &mut [u8; 128],
     key: &mut [u8; 8],
     mirror: &mut [u8; 17_840],
@@ -77,7 +78,7 @@ pub fn image_call(
     n: usize,
     words: &[u32; 32],
     out: &mut [u32; 16],
-    image: &mut [u8; 24_204],
+    image: &mut [u8; IMAGE_LENGTH],
     item: &mut [u8; 128],
     key: &mut [u8; 8],
     mirror: &mut [u8; 17_840],

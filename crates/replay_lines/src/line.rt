@@ -1,6 +1,7 @@
 // One line: its call made, the answer's line out.
 ghost use Prim.Native.Nat.{_+_, _≤_};
 ghost use Rattle.replay_text.specs.Answer.{Within};
+use image_reasons::IMAGE_LENGTH;
 use replay_calls::image_call;
 use replay_input::Line;
 use replay_input::read_line;
@@ -13,7 +14,7 @@ fn answer(
     line: Line,
     words: &[u32; 32],
     out: &mut [u32; 16],
-    image: &mut [u8; 24_204],
+    image: &mut [u8; IMAGE_LENGTH],
     item: &mut [u8; 128],
     key: &mut [u8; 8],
     mirror: &mut [u8; 17_840],
@@ -36,7 +37,7 @@ pub fn answer_line(
     n: usize,
     dst: &mut [u8; 65_536],
     held: usize,
-    image: &mut [u8; 24_204],
+    image: &mut [u8; IMAGE_LENGTH],
     item: &mut [u8; 128],
     key: &mut [u8; 8],
     mirror: &mut [u8; 17_840],

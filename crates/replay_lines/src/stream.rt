@@ -1,5 +1,6 @@
 // Standard input, line by line, to standard output.
 use crate::line::answer_line;
+use image_reasons::IMAGE_LENGTH;
 use replay_input::next_line;
 use replay_input::start;
 use replay_text::write_last;
@@ -9,7 +10,7 @@ pub fn replay() {
     let mut block = [0u8; 4096];
     let mut line = [0u8; 1024];
     let mut out = [0u8; 65_536];
-    let mut image = [0u8; 24_204];
+    let mut image = [0u8; IMAGE_LENGTH];
     let mut item = [0u8; 128];
     let mut key = [0u8; 8];
     let mut mirror = [0u8; 17_840];

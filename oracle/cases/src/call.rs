@@ -1,4 +1,4 @@
-//! The host's calls on a state image (HOST-ABI.md), and one of them as data.
+//! The host's calls on a state image (docs/INTERFACE.md), and one of them as data.
 
 use std::fmt;
 

@@ -1,4 +1,4 @@
-//! The key of a draw, as it crosses (HOST-ABI.md) and as the Rust has it.
+//! The key of a draw, as it crosses (docs/INTERFACE.md) and as the Rust has it.
 
 use std::sync::LazyLock;
 

@@ -1,4 +1,4 @@
-//! Our library, as the host sees it (HOST-ABI.md), with the bends of the self-test in between.
+//! Our library, as the host sees it (docs/INTERFACE.md), with the bends of the self-test in between.
 
 use cases::call::{Call, Name};
 
