@@ -6,6 +6,11 @@ ghost use Rattle.ff_state.specs.Transforms as Transforms;
 use crate::dirty::with_dirty;
 use crate::state::FfState;
 use d3d9_types::D3DMATRIX;
+use d3d9_types::D3DTS_PROJECTION;
+use d3d9_types::D3DTS_TEXTURE0;
+use d3d9_types::D3DTS_TEXTURE7;
+use d3d9_types::D3DTS_VIEW;
+use d3d9_types::D3DTS_WORLD;
 use matrix::mat_mul;
 use sections::LIGHTS;
 use sections::PALETTE;
@@ -13,6 +18,11 @@ use sections::PROJ;
 use sections::TT;
 use sections::WV;
 use words::wide16;
+
+// The numbers behind the last texture's and the last world matrix's.
+const TEXTURE_END: u32 = D3DTS_TEXTURE7 + 1;
+
+const WORLD_END: u32 = D3DTS_WORLD + 256;
 
 // Where a transform is stored.
 pub enum Place {
@@ -46,23 +56,23 @@ pub enum TransformRead {
 pub fn slot_of(state: u32) -> Slot
     ensures { λ r. ⌜ r ≡ slotOf state ⌝ }
 {
-    if state == 2 {
+    if state == D3DTS_VIEW {
         return Slot::At(Place::View);
     }
-    if state == 3 {
+    if state == D3DTS_PROJECTION {
         return Slot::At(Place::Projection);
     }
-    if state < 16 {
+    if state < D3DTS_TEXTURE0 {
         return Slot::Unknown;
     }
-    if state < 24 {
-        return Slot::At(Place::Texture((state - 16) as usize));
+    if state < TEXTURE_END {
+        return Slot::At(Place::Texture((state - D3DTS_TEXTURE0) as usize));
     }
-    if state < 256 {
+    if state < D3DTS_WORLD {
         return Slot::Unknown;
     }
-    if state < 512 {
-        return Slot::At(Place::Palette((state - 256) as usize));
+    if state < WORLD_END {
+        return Slot::At(Place::Palette((state - D3DTS_WORLD) as usize));
     }
     Slot::Unknown
 }
@@ -126,8 +136,7 @@ impl FfState {
     pub fn set_transform(self, state: u32, m: D3DMATRIX) -> TransformChanged
         ensures { λ r. ⌜ r ≡ setTransform self state m ⌝ }
     {
-        let slot = slot_of(state);
-        let Slot::At(place) = slot else {
+        let Slot::At(place) = slot_of(state) else {
             return TransformChanged {
                 answer: TransformAnswer::UnknownState,
                 state: self,
@@ -143,8 +152,7 @@ impl FfState {
     pub fn multiply_transform(self, state: u32, m: D3DMATRIX) -> TransformChanged
         ensures { λ r. ⌜ r ≡ multiplyTransform self state m ⌝ }
     {
-        let slot = slot_of(state);
-        let Slot::At(place) = slot else {
+        let Slot::At(place) = slot_of(state) else {
             return TransformChanged {
                 answer: TransformAnswer::UnknownState,
                 state: self,
@@ -160,8 +168,7 @@ impl FfState {
     pub fn transform(self, state: u32) -> TransformRead
         ensures { λ r. ⌜ r ≡ transformOf self state ⌝ }
     {
-        let slot = slot_of(state);
-        let Slot::At(place) = slot else {
+        let Slot::At(place) = slot_of(state) else {
             return TransformRead::UnknownState;
         };
         TransformRead::Matrix(matrix_at(self, place))

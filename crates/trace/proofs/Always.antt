@@ -41,7 +41,7 @@ use Rattle.refresh_calls.specs.Mirror.{HostRefreshed, ffRefreshNumber, ffRefres
 use Rattle.trace.specs.Calls.{HostOperation, Lent, theMirror, another, slice, HostCall, operates, refreshes, Call, own, readIn, refresh, overwrite, host, hostOn, hostAnswer, operationOf}
 use Rattle.trace.specs.Calls as Calls
 use Rattle.trace.specs.World.{World, Track, Stored, value, inImage, asState, asImage, held, trackReadIn, start, standing, operatedIf, imageRead, refreshedIf, wrongRows}
-use Rattle.trace.specs.Step.{refreshRefusal, accepts, hostKey, acceptedKey, ours, leaving, hostStep, handed, step, run}
+use Rattle.trace.specs.Step.{refreshRefusal, accepts, hostKey, acceptedKey, ours, leaving, hostStep, unread, handed, step, run}
 use Rattle.trace.specs.Claim.{KeyFits, ItemFits, HostTyped, ofMirror, hostMirror, lentMirror, Keeps, Admits, Admissible, AlwaysRight}
 use Rattle.trace.proofs.HostCalls.{HostLeaves, done, other, host-leaves, host-refresh-old, host-refresh-new}
 use Rattle.trace.proofs.HostCalls as HostCalls
@@ -49,6 +49,8 @@ use Rattle.trace.proofs.Invariant.{Stands, Invariant, writing-stands, b
 use Rattle.refresh_calls.proofs.MirrorBytes.{written-floats}
 use Rattle.trace.proofs.Refusals.{number-accepted, answer-number, host-refresh-number, passes}
 use Rattle.trace.proofs.Tracked.{Marked}
+use Rattle.calls.specs.Answer.{Answer}
+use Rattle.refresh_calls.proofs.Outcomes.{refresh-nine}
 
 abbrev pub Good : World → Type 0
 Good w = (s : FfState) × Invariant w s
@@ -241,6 +243,15 @@ on-another bytes b ok g h kept =
       marked = λ k e. absurd (kept .image k (rw ok e) .0 tt);
     }
 
+-- on bytes that are no image a refresh leaves the slice that it was lent
+unread-good : (bytes : List ℕ) → refused bytes ≡ true → {w : World} → Good w → (h : HostCall) → KeepsTo w (hostOn bytes h) → Good (unread ours bytes h w)
+unfolding unread leaving slice lentMirror hostMirror ofMirror
+unread-good bytes bad g (operates h) kept = g
+unread-good bytes bad g (refreshes k (theMirror m)) kept =
+    (g .0, after-left (g .1) _ (ap (λ (r : Answer HostRefreshed). mirrorFloats (r .out .mirror)) (sym (refresh-nine bytes k m 0 bad)) ∙ kept .mirror (mirrorFloats m) refl))
+unread-good bytes bad g (refreshes k (another m)) kept = g
+unread-good bytes bad g Calls.HostCall.reads kept = g
+
 value-lends : (w : World) (k : FfVsKey) (l : Lent Float) → KeepsTo w (refresh k l) → Lends (λ m. m) (w .track) k (accepts (w .abstract) k (eqb (length (slice l)) 4460)) l
 unfolding acceptedKey lentMirror
 value-lends w k l kept = record { mirror = kept .mirror; lent = kept .lent k; marked = marked-is kept k }
@@ -253,7 +264,7 @@ step-good (refresh k l) w (fit, kept) g = refresh-good (λ m. m) (by-value (g .1
 step-good (overwrite r x y z t) w (fit, kept) g = (g .0, after-overwrite (g .1) r x y z t)
 step-good (host h) w (fit, kept) g = host-good (image-accepted (g .1)) (by-host (g .1)) h fit (host-keeps g h kept)
 step-good (hostOn bytes h) w (fit, kept) g =
-    branch Good (refused bytes) w _ (λ q. g)
+    branch Good (refused bytes) _ _ (λ q. unread-good bytes q g h kept)
     (λ ok.
     let there = handed-good w g bytes (fit .0) ok in
     host-good (image-accepted (there .1)) (by-host (there .1)) h (fit .1) (on-another bytes (fit .0) ok g h kept))

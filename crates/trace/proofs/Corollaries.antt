@@ -26,6 +26,11 @@ use Rattle.trace.proofs.Allowed.{marks-five}
 use Rattle.trace.proofs.Always.{always-right}
 use Rattle.trace.proofs.Exempt.{Hits, only-hit, none-first, marking-ends, host-marking-ends}
 
+-- what begins an admissible list is admissible: the claim, of a list's last call, holds of each of its calls
+pub begins-admissible : (w : World) (calls after : List Call) → Admissible ours w (calls ++ after) → Admissible ours w calls
+begins-admissible w [] after a = tt
+begins-admissible w (c ∷ calls) after a = (a .0, begins-admissible (step ours c w) calls after (a .1))
+
 -- ---- lists without overwriting
 
 abbrev pub Overwrites : Call → Type 0

@@ -19,7 +19,7 @@ use Rattle.d3d9_model.specs.Operations.{Operation}
 use Rattle.trace.specs.Calls.{Lent, theMirror, another, HostOperation, HostCall, operates, refreshes, Call, own, readIn, refresh, overwrite, host, hostOn, operationOf}
 use Rattle.trace.specs.Calls as Calls
 use Rattle.trace.specs.World.{World, Track, withMirror, trackMarked, trackReadIn, trackRefreshed, isRow, hits, trackOverwritten, freshTrack, start, standing, tracking, marks, operated, operatedIf, imageRead, refreshedIf}
-use Rattle.trace.specs.Step.{Refresher, leaving, hostStep, handed, step}
+use Rattle.trace.specs.Step.{Refresher, leaving, hostStep, unread, handed, step}
 use Rattle.trace.proofs.Tracked.{hits-is}
 
 -- the call is an overwriting that hits the section
@@ -58,6 +58,12 @@ module _ (R : Refresher) (σ : Section) where
   host-no (refreshes k l) w e = leaving-no l _ w (refreshed-no _ (leaving l _ w) e)
   host-no Calls.HostCall.reads w e = e
 
+  unread-no : (bytes : List ℕ) (h : HostCall) (w : World) → No w (unread R bytes h w)
+  unfolding unread
+  unread-no bytes (operates h) w e = e
+  unread-no bytes (refreshes k l) w e = leaving-no l _ w e
+  unread-no bytes Calls.HostCall.reads w e = e
+
   pub only-hit : (c : Call) (w : World) → step R c w .track .exempt σ ≡ true → (w .track .exempt σ ≡ true) ⊎ Hits c w σ
   unfolding step standing operatedIf imageRead trackReadIn tracking trackOverwritten
   only-hit (own op) w e = inl (operated-no (some op) w e)
@@ -65,7 +71,7 @@ module _ (R : Refresher) (σ : Section) where
   only-hit (refresh k l) w e = inl (leaving-no l _ w (refreshed-no _ (leaving l _ w) e))
   only-hit (overwrite r x y z t) w e = either (w .track .exempt σ) (hits r (w .track) σ) e
   only-hit (host h) w e = inl (host-no h w e)
-  only-hit (hostOn bytes h) w e = inl (branch (No w) (refused bytes) w _ (λ q x. x) (λ q x. host-no h (handed bytes w) x) e)
+  only-hit (hostOn bytes h) w e = inl (branch (No w) (refused bytes) _ _ (λ q x. unread-no bytes h w x) (λ q x. host-no h (handed bytes w) x) e)
   only-hit Calls.Call.reads w e = inl e
 
   pub none-first : (m : List Float) → start m .track .exempt σ ≡ false

@@ -14,7 +14,7 @@ use Rattle.refresh_calls.specs.Written.{mirrorFloats}
 use Rattle.trace.specs.Calls.{Lent, theMirror, another, slice, refreshes, own, refresh, host}
 use Rattle.trace.specs.Count.{rowsUnder}
 use Rattle.trace.specs.World.{World, Stored, value, asState, asImage, withMirror, trackMarked, trackRefreshed, standing, tracking, marks, operated, refreshedIf}
-use Rattle.trace.specs.Step.{Refresher, acceptedKey, leaving, hostStep, step}
+use Rattle.trace.specs.Step.{Refresher, acceptedKey, leaving, hostStep, step, unread}
 
 -- between the worlds before and after
 pub record AfterRefresh (w v : World) (k : FfVsKey) : Type 0 where
@@ -52,6 +52,11 @@ module _ (R : Refresher) (w : World) (k : FfVsKey) where
   pub host-refresh-mirror : (m : List ℕ) → step R (host (refreshes k (theMirror m))) w .track .mirror ≡ mirrorFloats (R .byHost (asImage (w .stored)) k m 0 .out .mirror)
   unfolding step hostStep slice
   host-refresh-mirror m = left-there _ m _ _ w
+
+-- on bytes that are no image too
+pub unread-mirror : (R : Refresher) (bytes : List ℕ) (w : World) (k : FfVsKey) (m : List ℕ) → unread R bytes (refreshes k (theMirror m)) w .track .mirror ≡ mirrorFloats (R .byHost bytes k m 0 .out .mirror)
+unfolding unread leaving tracking withMirror slice
+unread-mirror R bytes w k m = refl
 
 -- where the state stands afterwards, accepted or not
 pub refresh-stored : (R : Refresher) (w : World) (k : FfVsKey) (l : Lent Float) → step R (refresh k l) w .stored ≡ value (R .byValue (asState (w .stored)) k (slice l) .result .state)

@@ -72,6 +72,12 @@ hostStep R (refreshes k l) w =
     standing (inImage (held (w .stored)) (r .image)) (refreshedIf (hostKey (w .abstract) (refreshes k l)) (leaving l (mirrorFloats (r .mirror)) w))
 hostStep R Calls.HostCall.reads w = standing (inImage (held (w .stored)) (asImage (w .stored))) w
 
+-- a host's call on bytes that are no image: 9, and nothing is read in; the mirror is as a refresh left it
+unfoldable pub unread : Refresher → List ℕ → HostCall → World → World
+unread R bytes (operates h) w = w
+unread R bytes (refreshes k l) w = leaving l (mirrorFloats (R .byHost bytes k (slice l) 0 .out .mirror)) w
+unread R bytes Calls.HostCall.reads w = w
+
 -- "a host's call on any other image is a reading in of that image, then the call"
 abbrev pub handed : List ℕ → World → World
 handed bytes w = imageRead (inImage (held (w .stored)) bytes) bytes w
@@ -86,8 +92,7 @@ step R (refresh k l) w =
     standing (value (r .result .state)) (refreshedIf (acceptedKey w (refresh k l)) (leaving l (r .floats) w))
 step R (overwrite r x y z t) w = tracking (trackOverwritten r x y z t (w .track)) w
 step R (host h) w = hostStep R h w
--- 9 changes nothing
-step R (hostOn bytes h) w = cond (refused bytes) w (hostStep R h (handed bytes w))
+step R (hostOn bytes h) w = cond (refused bytes) (unread R bytes h w) (hostStep R h (handed bytes w))
 step R Calls.Call.reads w = w
 
 unfoldable pub run : Refresher → List Call → World → World

@@ -12,8 +12,8 @@ use Rattle.ff_state.proofs.state.FfState.multiply_transform.Tie as tie
 slot-of-requires : tie.Need-slot-of-requires
 slot-of-requires c κs = search needs
 
-enum-known-slot : tie.Need-enum-known-slot
-enum-known-slot c = search needs
+enum-known-place : tie.Need-enum-known-place
+enum-known-place c = search needs
 
 enum-told : tie.Need-enum-told
 enum-told c = search needs
@@ -23,13 +23,13 @@ unfolding multiplyTransform changeAt
 returns c = rw (← c .before .before .slot-of .ensures, c .enum-told .given .1)
 
 matrix-at-requires : tie.Need-matrix-at-requires
-matrix-at-requires c κs = in-range _ _ (sym (c .before .before .before .slot-of .ensures) ∙ c .before .slot .given .1)
+matrix-at-requires c κs = in-range _ _ (sym (c .before .before .before .slot-of .ensures) ∙ c .before .place .given .1)
 
 mat-mul-requires : tie.Need-mat-mul-requires
 mat-mul-requires c κs = search needs
 
 placed-at-requires : tie.Need-placed-at-requires
-placed-at-requires c κs = in-range _ _ (sym (c .before .before .before .before .before .slot-of .ensures) ∙ c .before .before .before .slot .given .1)
+placed-at-requires c κs = in-range _ _ (sym (c .before .before .before .before .before .slot-of .ensures) ∙ c .before .before .before .place .given .1)
 
 place-bits-requires : tie.Need-place-bits-requires
 place-bits-requires c κs = search needs
@@ -43,8 +43,8 @@ returns-2 c =
     let product = c .before .before .before in
     let known = product .before .before in
     let at = known .before .before .before in
-    let p = known .before .slot .given .0 .0 in
-    rw (← at .slot-of .ensures, known .before .slot .given .1)
+    let p = known .before .place .given .0 .0 in
+    rw (← at .slot-of .ensures, known .before .place .given .1)
     (ap accepted
     (c .with-dirty .ensures
     ∙ ap₂ dirtied
@@ -56,7 +56,7 @@ multiply-transform-spec =
     tie.close
     (tie.spec
     slot-of-requires
-    enum-known-slot
+    enum-known-place
     enum-told
     returns
     matrix-at-requires

@@ -10,8 +10,8 @@ use Rattle.ff_state.proofs.state.FfState.set_transform.Tie as tie
 slot-of-requires : tie.Need-slot-of-requires
 slot-of-requires c κs = search needs
 
-enum-known-slot : tie.Need-enum-known-slot
-enum-known-slot c = search needs
+enum-known-place : tie.Need-enum-known-place
+enum-known-place c = search needs
 
 enum-told : tie.Need-enum-told
 enum-told c = search needs
@@ -21,7 +21,7 @@ unfolding setTransform changeAt
 returns c = rw (← c .before .before .slot-of .ensures, c .enum-told .given .1)
 
 placed-at-requires : tie.Need-placed-at-requires
-placed-at-requires c κs = in-range _ _ (sym (c .before .before .before .slot-of .ensures) ∙ c .before .slot .given .1)
+placed-at-requires c κs = in-range _ _ (sym (c .before .before .before .slot-of .ensures) ∙ c .before .place .given .1)
 
 place-bits-requires : tie.Need-place-bits-requires
 place-bits-requires c κs = search needs
@@ -34,7 +34,7 @@ unfolding setTransform changeAt
 returns-2 c =
     let known = c .before .before .before in
     let at = known .before .before .before in
-    rw (← at .slot-of .ensures, known .before .slot .given .1)
+    rw (← at .slot-of .ensures, known .before .place .given .1)
     (ap accepted (c .with-dirty .ensures ∙ ap₂ dirtied (c .before .before .placed-at .ensures) (c .before .place-bits .ensures)))
 
 pub set-transform-spec : {M : Type 1} → statement M
@@ -42,7 +42,7 @@ set-transform-spec =
     tie.close
     (tie.spec
     slot-of-requires
-    enum-known-slot
+    enum-known-place
     enum-told
     returns
     placed-at-requires

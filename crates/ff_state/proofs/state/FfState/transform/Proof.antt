@@ -10,8 +10,8 @@ use Rattle.ff_state.proofs.state.FfState.transform.Tie as tie
 slot-of-requires : tie.Need-slot-of-requires
 slot-of-requires c κs = search needs
 
-enum-known-slot : tie.Need-enum-known-slot
-enum-known-slot c = search needs
+enum-known-place : tie.Need-enum-known-place
+enum-known-place c = search needs
 
 enum-told : tie.Need-enum-told
 enum-told c = search needs
@@ -21,15 +21,15 @@ unfolding transformOf readAt
 returns c = rw (← c .before .before .slot-of .ensures, c .enum-told .given .1)
 
 matrix-at-requires : tie.Need-matrix-at-requires
-matrix-at-requires c κs = in-range _ _ (sym (c .before .before .before .slot-of .ensures) ∙ c .before .slot .given .1)
+matrix-at-requires c κs = in-range _ _ (sym (c .before .before .before .slot-of .ensures) ∙ c .before .place .given .1)
 
 returns-2 : tie.Need-returns-2
 unfolding transformOf readAt
 returns-2 c =
     let known = c .before in
-    rw (← known .before .before .before .slot-of .ensures, known .before .slot .given .1) (ap Matrix (c .matrix-at .ensures))
+    rw (← known .before .before .before .slot-of .ensures, known .before .place .given .1) (ap Matrix (c .matrix-at .ensures))
 
 pub transform-spec : {M : Type 1} → statement M
 transform-spec =
     tie.close
-    (tie.spec slot-of-requires enum-known-slot enum-told returns matrix-at-requires returns-2)
+    (tie.spec slot-of-requires enum-known-place enum-told returns matrix-at-requires returns-2)
