@@ -25,7 +25,7 @@ two-bytes : numberAt 2 (9 ∷ 0x34 ∷ 0x12 ∷ 9 ∷ []) 1 ≡ 0x1234
 unfolding littleNumber
 two-bytes = refl
 
-put-over : put 1 (7 ∷ 8 ∷ []) (1 ∷ 2 ∷ 3 ∷ 4 ∷ []) ≡ 1 ∷ 7 ∷ 8 ∷ 4 ∷ []
+put-over : put {A = ℕ} 1 (7 ∷ 8 ∷ []) (1 ∷ 2 ∷ 3 ∷ 4 ∷ []) ≡ 1 ∷ 7 ∷ 8 ∷ 4 ∷ []
 unfolding put
 put-over = refl
 

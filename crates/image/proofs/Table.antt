@@ -6,9 +6,8 @@ use mathlib.Core.Path.{_≡_, refl, sym, ap, _∙_}
 use mathlib.Core.List.{List, [], _∷_, _++_, append-assoc, append-nil}
 use lib.ListN.{length, length-append}
 use Rattle.codec.specs.Put.{put}
-use Rattle.codec.proofs.Put.{put-append, put-whole}
+use Rattle.codec.proofs.Put.{put-none, put-append, put-whole}
 use Rattle.image.specs.Table.{Field, tableBytes, Tiles}
-use Rattle.image_lists.proofs.Writing.{put-none}
 
 pub length-tableBytes : (n e : ℕ) (fs : List Field) → Tiles n fs e → n + length (tableBytes fs) ≡ e
 unfolding tableBytes

@@ -1,5 +1,4 @@
 -- Every reachable state is valid: the fresh one is, and each call keeps it. What a call leaves of a reachable state is reachable. Assumes nothing.
-use Prim.Native.Nat.{ℕ}
 use mathlib.Core.Path.{_≡_, refl, ap, subst, _∙_}
 use mathlib.Core.List.{List, [], _∷_, _++_}
 use Rattle.ff_state.specs.State.{freshState}

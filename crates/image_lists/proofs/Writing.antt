@@ -6,10 +6,10 @@ use native.Mathlib.Numerals.{add-one}
 use native.Mathlib.Omega.{arith}
 use mathlib.Core.Path.{_≡_, refl, sym, ap, _∙_}
 use mathlib.Core.List.{List, [], _∷_, _++_, append-assoc, append-nil}
-use lib.ListN.{length, getD, take, length-append, take-append-drop}
+use lib.ListN.{length, getD, take, length-append}
 use lib.Seq.{length-take-le, take-suc, take-all}
 use Rattle.codec.specs.Put.{put}
-use Rattle.codec.proofs.Put.{put-append}
+use Rattle.codec.proofs.Put.{put-none, put-append}
 use Rattle.image_lists.specs.Lists.{listBytes}
 
 pub listBytes-append : {A : Type 0} (f : A → List ℕ) (xs ys : List A) → listBytes f (xs ++ ys) ≡ listBytes f xs ++ listBytes f ys
@@ -20,10 +20,6 @@ listBytes-append f (x ∷ xs) ys = rw (append-assoc, listBytes-append f xs ys)
 listBytes-one : {A : Type 0} (f : A → List ℕ) (x : A) → listBytes f (x ∷ []) ≡ f x
 unfolding listBytes
 listBytes-one f x = append-nil (f x)
-
-pub put-none : (at : ℕ) (m : List ℕ) → put at [] m ≡ m
-unfolding put
-put-none at m = take-append-drop at m
 
 module _ {A : Type 0} (f : A → List ℕ) (w : ℕ) (wide : (x : A) → length (f x) ≡ w) where
   pub length-listBytes : (xs : List A) → length (listBytes f xs) ≡ w * length xs

@@ -12,6 +12,8 @@ use lib.ListN.{length, getD}
 use borrow.Author.Tests.{ltb-true, ltb-false}
 use Rattle.lemmas.proofs.Tests.{never}
 use Rattle.lemmas.proofs.Branch.{branch}
+use Rattle.codec.specs.Put.{put}
+use Rattle.codec.proofs.Put.{Outside, length-put}
 use Rattle.sections.specs.Sections.{sections, hasSection}
 use Rattle.sections.specs.declared.sections.Section.{Section}
 use Rattle.sections.specs.declared.sections.Section.the-variants.{Wv, Proj, Material, Lights, Palette, Tt}
@@ -20,9 +22,9 @@ use Rattle.sections.specs.Sections.{firstRow}
 use Rattle.sections.specs.declared.key.FfVsKey.{FfVsKey}
 use Rattle.sections.proofs.Tiles.{apart}
 use Rattle.packing.specs.Pack.{stateRows, stateCount}
-use Rattle.refresh.specs.Written.{put, firstFloat, writtenSection, written}
+use Rattle.refresh.specs.Written.{firstFloat, writtenSection, written}
 use Rattle.refresh.proofs.Packed.{Ready, rows-length, fits}
-use Rattle.refresh.proofs.Parts.{Holds, Outside, length-put, put-holds, put-outside}
+use Rattle.refresh.proofs.Parts.{Holds, put-holds, put-outside}
 use Rattle.packing.specs.Inputs.{inputsOf}
 
 -- ---- sections by their first rows

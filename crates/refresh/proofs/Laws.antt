@@ -6,6 +6,7 @@ use mathlib.Core.Bool.{true, false}
 use mathlib.Core.List.{List}
 use lib.Ieee.{Float, nan}
 use lib.ListN.{length, getD}
+use Rattle.codec.proofs.Put.{Outside}
 use Rattle.ff_state.specs.Dirty.{takeFfVsDirty}
 use Rattle.ff_state.specs.Inputs.{sameInputs}
 use Rattle.sections.specs.Sections.{sections, hasSection}
@@ -21,7 +22,7 @@ use Rattle.refresh.specs.declared.answer.RefreshAnswer.{RefreshAnswer}
 use Rattle.refresh.specs.declared.answer.RefreshAnswer.the-variants.{Accepted}
 use Rattle.refresh.proofs.Answers.{accepted-fits}
 use Rattle.refresh.proofs.Packed.{Ready}
-use Rattle.refresh.proofs.Parts.{Holds, Outside}
+use Rattle.refresh.proofs.Parts.{Holds}
 use Rattle.refresh.proofs.Writes.{refused}
 use Rattle.refresh.proofs.Holding.{every-in, written-length, written-outside, written-off, written-on}
 

@@ -5,7 +5,8 @@ use mathlib.Core.Path.{_≡_, refl, sym, ap, ap₂, _∙_}
 use mathlib.Core.Bool.{Bool, true, false, cond}
 use mathlib.Core.List.{List, []}
 use lib.Ieee.{Float}
-use lib.ListN.{take-append-drop}
+use Rattle.codec.specs.Put.{put}
+use Rattle.codec.proofs.Put.{put-none}
 use Rattle.ff_state.specs.Dirty.{takeFfVsDirty}
 use Rattle.sections.specs.Sections.{sections, hasSection}
 use Rattle.ff_state.specs.declared.dirty.Taken.{Taken}
@@ -15,14 +16,9 @@ use Rattle.rows.specs.Rows.{floats}
 use Rattle.sections.specs.declared.key.FfVsKey.{FfVsKey}
 use Rattle.packing.specs.Inputs.{packedRows}
 use Rattle.refresh.specs.Mirror.{refreshed, refusal, acceptance, refreshBy}
-use Rattle.refresh.specs.Written.{put, firstFloat, writtenSection, written}
+use Rattle.refresh.specs.Written.{firstFloat, writtenSection, written}
 use Rattle.refresh.specs.declared.answer.RefreshAnswer.{RefreshAnswer}
 use Rattle.refresh.specs.declared.answer.RefreshAnswer.the-variants.{Accepted, WrongLength, HasRhw, WrongMask}
-
--- nothing put anywhere
-put-nothing : (at : ℕ) (m : List Float) → put at [] m ≡ m
-unfolding put
-put-nothing at m = take-append-drop at m
 
 module _ (s : FfState) (k : FfVsKey) where
   pub tt-nothing : (bits : ℕ) (m : List Float) → writtenSection Tt bits s k m ≡ m
@@ -30,7 +26,7 @@ module _ (s : FfState) (k : FfVsKey) where
   tt-nothing bits m = go (hasSection bits Tt)
     where
       go : (t : Bool) → cond t (put (firstFloat Tt) [] m) m ≡ m
-      go true = put-nothing (firstFloat Tt) m
+      go true = put-none (firstFloat Tt) m
       go false = refl
 
   pub refused : (a : RefreshAnswer) → (a ≡ Accepted → ⊥) → (m : List Float) → refreshed (refusal a s) m ≡ refreshBy a s k m

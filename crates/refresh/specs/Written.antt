@@ -1,19 +1,15 @@
 -- Sections written into a mirror. Document 01, 'A refresh, from the top': "Each row range is filled through the part of the mirror that starts at the section's first row. … Other rows keep their contents."
 use Prim.Native.Nat.{ℕ, _*_}
 use mathlib.Core.Bool.{cond}
-use mathlib.Core.List.{List, [], _∷_, _++_}
+use mathlib.Core.List.{List, [], _∷_}
 use lib.Ieee.{Float}
-use lib.ListN.{length, take, drop}
+use Rattle.codec.specs.Put.{put}
 use Rattle.sections.specs.Sections.{hasSection}
 use Rattle.sections.specs.declared.sections.Section.{Section}
 use Rattle.ff_state.specs.declared.state.FfState.{FfState}
 use Rattle.sections.specs.Sections.{firstRow}
 use Rattle.sections.specs.declared.key.FfVsKey.{FfVsKey}
 use Rattle.packing.specs.Pack.{stateRows}
-
--- floats in the place of as many from `at` on
-unfoldable pub put : ℕ → List Float → List Float → List Float
-put at vs m = take at m ++ (vs ++ drop (length vs) (drop at m))
 
 -- where a section begins in the mirror, a row being four floats
 abbrev pub firstFloat : Section → ℕ

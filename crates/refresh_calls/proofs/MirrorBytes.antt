@@ -31,10 +31,9 @@ use Rattle.sections.specs.declared.key.FfVsKey.{FfVsKey}
 use Rattle.packing.specs.Inputs.{inputsOf}
 use Rattle.packing.specs.Pack.{stateRows}
 use Rattle.packing.proofs.Fits.{packed-fit, inputs-fit}
-use Rattle.refresh.specs.Written as Floats
 use Rattle.refresh.specs.Written.{firstFloat, writtenSection, written}
 use Rattle.refresh.proofs.Packed.{Ready, fits}
-use Rattle.refresh.proofs.Parts as Parts
+use Rattle.refresh.proofs.Parts.{put-holds, put-outside}
 use Rattle.refresh_calls.specs.Written.{mirrorFloats, writtenSectionBytes, writtenBytes}
 use Rattle.lemmas.proofs.Tests.{test}
 
@@ -84,28 +83,28 @@ module _ (at : ℕ) (xs : List Float) (bytes : List ℕ) (fit : (i : ℕ) → i 
   unfolding floatAt
   at-behind i h = ap (λ (l : List ℕ). ofBits binary32 (littleNumber (take 4 l))) (drop-behind (4 * at) vs bytes space (4 * i) (omega (arith, h, length-bytes xs)))
 
-  each : (i : ℕ) → i < 4460 → floatAt (put (4 * at) vs bytes) (4 * i) ≡ getD (Floats.put at xs (mirrorFloats bytes)) i nan
+  each : (i : ℕ) → i < 4460 → floatAt (put (4 * at) vs bytes) (4 * i) ≡ getD (put at xs (mirrorFloats bytes)) i nan
   each i h = go (test (ltb i at)) (test (ltb i (at + length xs)))
     where
       go : (ltb i at ≡ true) ⊎ (ltb i at ≡ false) → (ltb i (at + length xs) ≡ true) ⊎ (ltb i (at + length xs) ≡ false)
-          → floatAt (put (4 * at) vs bytes) (4 * i) ≡ getD (Floats.put at xs (mirrorFloats bytes)) i nan
-      go (inl p) q = at-before i (ltb-true i at p) ∙ sym (mirror-at bytes i h) ∙ sym (Parts.put-outside at xs (mirrorFloats bytes) place i (inl (ltb-true i at p)))
+          → floatAt (put (4 * at) vs bytes) (4 * i) ≡ getD (put at xs (mirrorFloats bytes)) i nan
+      go (inl p) q = at-before i (ltb-true i at p) ∙ sym (mirror-at bytes i h) ∙ sym (put-outside at xs (mirrorFloats bytes) place i (inl (ltb-true i at p)))
       go (inr p) (inr q) =
           let l = ltb-false i (at + length xs) q in
-          at-behind i l ∙ sym (mirror-at bytes i h) ∙ sym (Parts.put-outside at xs (mirrorFloats bytes) place i (inr l))
+          at-behind i l ∙ sym (mirror-at bytes i h) ∙ sym (put-outside at xs (mirrorFloats bytes) place i (inr l))
       go (inr p) (inl q) =
           let j : ℕ = i - at in
           let e : i ≡ at + j = omega (arith, ltb-false i at p) in
           let l : j < length xs = omega (arith, ltb-false i at p, ltb-true i (at + length xs) q) in
           ap (λ (n : ℕ). floatAt (put (4 * at) vs bytes) (4 * n)) e
           ∙ at-inside j l
-          ∙ sym (Parts.put-holds at xs (mirrorFloats bytes) place j l)
-          ∙ ap (λ (n : ℕ). getD (Floats.put at xs (mirrorFloats bytes)) n nan) (sym e)
+          ∙ sym (put-holds at xs (mirrorFloats bytes) place j l)
+          ∙ ap (λ (n : ℕ). getD (put at xs (mirrorFloats bytes)) n nan) (sym e)
 
-  pub put-floats : mirrorFloats (put (4 * at) vs bytes) ≡ Floats.put at xs (mirrorFloats bytes)
+  pub put-floats : mirrorFloats (put (4 * at) vs bytes) ≡ put at xs (mirrorFloats bytes)
   put-floats =
-      ext-getD nan (mirrorFloats (put (4 * at) vs bytes)) (Floats.put at xs (mirrorFloats bytes))
-      (mirror-long (put (4 * at) vs bytes) ∙ sym (Parts.length-put at xs (mirrorFloats bytes) place ∙ mirror-long bytes))
+      ext-getD nan (mirrorFloats (put (4 * at) vs bytes)) (put at xs (mirrorFloats bytes))
+      (mirror-long (put (4 * at) vs bytes) ∙ sym (length-put at xs (mirrorFloats bytes) place ∙ mirror-long bytes))
       (λ i h.
       let l : i < 4460 = omega (arith, h, mirror-long (put (4 * at) vs bytes)) in
       mirror-at (put (4 * at) vs bytes) i l ∙ each i l)

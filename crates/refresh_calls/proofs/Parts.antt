@@ -1,13 +1,11 @@
--- Sections over a mirror's bytes: a part that was lent and filled is put back, and of TT there is no row.
+-- Sections over a mirror's bytes, one after another: a part that was filled, and that of TT there is no row.
 -- Assumes nothing.
-use Prim.Native.Nat.{ℕ, _+_, _*_, _≤_}
-use native.Mathlib.Omega.{arith}
+use Prim.Native.Nat.{ℕ, _*_}
 use mathlib.Core.Path.{_≡_, refl, sym, ap, _∙_}
 use mathlib.Core.Bool.{Bool, true, false, cond}
-use mathlib.Core.List.{List, [], _++_}
-use lib.ListN.{length, take, drop, length-drop, take-append-drop}
-use lib.Seq.{length-take-le}
+use mathlib.Core.List.{List, []}
 use Rattle.codec.specs.Put.{put}
+use Rattle.codec.proofs.Put.{put-none}
 use Rattle.image_lists.specs.Lists.{listBytes}
 use Rattle.sections.specs.Sections.{sections, hasSection}
 use Rattle.sections.specs.declared.sections.Section.the-variants.{Wv, Proj, Material, Lights, Palette, Tt}
@@ -19,23 +17,16 @@ use Rattle.refresh.specs.Written.{firstFloat}
 use Rattle.calls.specs.Answer.{Answer, answer, answered}
 use Rattle.refresh_calls.specs.Written.{writtenSectionBytes, writtenBytes}
 
-pub part-length : (a n : ℕ) (m : List ℕ) → a + n ≤ length m → length (take n (drop a m)) ≡ n
-part-length a n m room = length-take-le n (drop a m) (rw length-drop (omega arith))
-
-pub put-back : (m : List ℕ) {a at n : ℕ} {ys vs : List ℕ} → a ≡ at → ys ≡ vs → length vs ≡ n → take a m ++ (ys ++ drop n (drop a m)) ≡ put at vs m
-unfolding put
-put-back m p q l = rw (p, q, ← l)
-
 pub filled : (r number : ℕ) (last new old : List ℕ) → number ≡ 0 → answer r last ≡ answered number new old → last ≡ new
 unfolding answered
 filled r number last new old z e = ap (λ (x : Answer (List ℕ)). x .out) e ∙ rw z
 
 pub tt-nothing : (s : FfState) (k : FfVsKey) (bits : ℕ) (m : List ℕ) → writtenSectionBytes Tt bits s k m ≡ m
-unfolding writtenSectionBytes packedRows floats listBytes put
+unfolding writtenSectionBytes packedRows floats listBytes
 tt-nothing s k bits m = go (hasSection bits Tt)
   where
     go : (t : Bool) → cond t (put (4 * firstFloat Tt) [] m) m ≡ m
-    go true = take-append-drop (4 * firstFloat Tt) m
+    go true = put-none (4 * firstFloat Tt) m
     go false = refl
 
 -- the five sections that have rows, in the table's order

@@ -44,7 +44,7 @@ u8-at-requires-2 : tie.Need-u8-at-requires-2
 u8-at-requires-2 c κs = le-trans (lit≤ tt) (c .before .before .before .before .before .before .before .before .before .before .before .before .pre)
 
 entries-at-requires : tie.Need-entries-at-requires
-entries-at-requires c κs = c .before .before .before .before .before .before .before .before .before .before .before .before .before .pre
+entries-at-requires c κs = le-trans (lit≤ tt) (c .before .before .before .before .before .before .before .before .before .before .before .before .before .pre)
 
 u16-at-requires-2 : tie.Need-u16-at-requires-2
 u16-at-requires-2 c κs = le-trans (lit≤ tt) (c .before .before .before .before .before .before .before .before .before .before .before .before .before .before .pre)

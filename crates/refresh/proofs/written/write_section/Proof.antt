@@ -9,7 +9,7 @@ use Rattle.sections.specs.Sections.{firstRow}
 use Rattle.sections.proofs.Tiles.{fits-mirror}
 use Rattle.refresh.specs.Written.{writtenSection}
 use Rattle.refresh.proofs.Packed.{Ready, rows-length, packs}
-use Rattle.refresh.proofs.Parts.{part-length, put-back}
+use Rattle.codec.proofs.Put.{part-length, put-back}
 use borrow.Author.Needs.{needs}
 use Rattle.refresh.proofs.written.write_section.Statement.{statement}
 use Rattle.refresh.proofs.written.write_section.Tie as tie

@@ -13,7 +13,8 @@ use Rattle.refresh.proofs.Packed.{Ready, rows-length, accepted}
 use Rattle.refresh_calls.specs.Written.{writtenSectionBytes}
 use Rattle.pack_calls.specs.Fill.{fillBytes}
 use Rattle.pack_calls.proofs.Fills.{fill-fits, front, front-rows}
-use Rattle.refresh_calls.proofs.Parts.{part-length, put-back, filled}
+use Rattle.codec.proofs.Put.{part-length, put-back}
+use Rattle.refresh_calls.proofs.Parts.{filled}
 use Rattle.pack_calls.proofs.Width.{length-floatBytes}
 use borrow.Author.Needs.{needs}
 use Rattle.refresh_calls.proofs.written.write_section_bytes.Statement.{statement}
