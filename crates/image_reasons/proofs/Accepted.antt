@@ -11,7 +11,7 @@ use Rattle.codec.specs.Little.{numberAt}
 use Rattle.lemmas.proofs.Tests.{neither}
 use Rattle.image_reasons.specs.Length.{imageLength}
 use Rattle.image_reasons.specs.Tests.{nanFree, lightsNanFree, entriesNanFree, ascends, flags, zeros, bitsDefined, slotsDefault}
-use Rattle.image_reasons.specs.Reasons.{anotherLength, dirtyAbove63, zeroByteSet, indexAbove255, countAbove56, countOf, numbersRefused, notAscending, enableNotFlag, unusedNotZero, entriesRefused, enabledUndefined, undefinedNotDefault, slotsRefused, anotherNaN, refused}
+use Rattle.image_reasons.specs.Reasons.{anotherLength, dirtyAbove63, zeroByteSet, indexAbove255, countOf, numbersRefused, notAscending, enableNotFlag, entriesRefused, enabledUndefined, slotsRefused, anotherNaN, refused}
 use Rattle.image_reasons.proofs.Numbers.{few-entries}
 
 -- an image ends with its 56 entries
@@ -37,15 +37,15 @@ pub record Accepted (bytes : List ℕ) : Type 0 where
 pub accepted : (bytes : List ℕ) → refused bytes ≡ false → Accepted bytes
 unfolding refused numbersRefused entriesRefused slotsRefused anotherNaN
 accepted bytes h =
-    let h₁ = neither (anotherLength bytes) (numbersRefused bytes || (entriesRefused bytes || (slotsRefused bytes || anotherNaN bytes))) h in
-    let h₂ = neither (numbersRefused bytes) (entriesRefused bytes || (slotsRefused bytes || anotherNaN bytes)) (h₁ .1) in
-    let h₃ = neither (entriesRefused bytes) (slotsRefused bytes || anotherNaN bytes) (h₂ .1) in
-    let h₄ = neither (slotsRefused bytes) (anotherNaN bytes) (h₃ .1) in
-    let n₁ = neither (dirtyAbove63 bytes) (zeroByteSet bytes || (indexAbove255 bytes || countAbove56 bytes)) (h₂ .0) in
-    let n₂ = neither (zeroByteSet bytes) (indexAbove255 bytes || countAbove56 bytes) (n₁ .1) in
-    let e₁ = neither (notAscending bytes) (enableNotFlag bytes || unusedNotZero bytes) (h₃ .0) in
-    let e₂ = neither (enableNotFlag bytes) (unusedNotZero bytes) (e₁ .1) in
-    let s₁ = neither (enabledUndefined bytes) (undefinedNotDefault bytes) (h₄ .0) in
+    let h₁ = neither (anotherLength bytes) _ h in
+    let h₂ = neither (numbersRefused bytes) _ (h₁ .1) in
+    let h₃ = neither (entriesRefused bytes) _ (h₂ .1) in
+    let h₄ = neither (slotsRefused bytes) _ (h₃ .1) in
+    let n₁ = neither (dirtyAbove63 bytes) _ (h₂ .0) in
+    let n₂ = neither (zeroByteSet bytes) _ (n₁ .1) in
+    let e₁ = neither (notAscending bytes) _ (h₃ .0) in
+    let e₂ = neither (enableNotFlag bytes) _ (e₁ .1) in
+    let s₁ = neither (enabledUndefined bytes) _ (h₄ .0) in
     let f₁ =
     and-eq-true-iff (nanFree 4_273 bytes 0) (lightsNanFree bytes 17_092 && entriesNanFree bytes 17_932) .0
     (not-false (nanFree 4_273 bytes 0 && (lightsNanFree bytes 17_092 && entriesNanFree bytes 17_932)) (h₄ .1)) in
