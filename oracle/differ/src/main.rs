@@ -12,6 +12,7 @@ mod host;
 mod lengths;
 mod lists;
 mod matrices;
+#[path = "../../../bindings/rust/src/raw.rs"]
 mod raw;
 mod report;
 mod scalars;
