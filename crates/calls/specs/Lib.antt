@@ -3,5 +3,4 @@ pub mod Call
 pub mod Images
 pub mod Transforms
 pub mod Materials
-pub mod Lights
 pub mod Bits

@@ -1,7 +1,6 @@
 // A call over a state image: 9 for what is not one, then the call's own refusals, and the image left behind.
 mod bits;
 mod images;
-mod lights;
 mod materials;
 mod transforms;
 
@@ -10,13 +9,6 @@ pub use bits::take_ff_vs_dirty;
 pub use images::image_check;
 pub use images::image_fresh;
 pub use images::put_state;
-pub use lights::compacted_light_masks;
-pub use lights::get_light_at;
-pub use lights::is_light_defined_at;
-pub use lights::is_light_enabled_at;
-pub use lights::set_light_at;
-pub use lights::set_light_enabled_at;
-pub use lights::vs_source_light_inputs;
 pub use materials::material;
 pub use materials::set_material;
 pub use transforms::multiply_transform;

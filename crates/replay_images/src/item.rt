@@ -12,8 +12,8 @@ fn lent_call(letter: u8, a: u32, image: &mut [u8], lent: &mut [u8]) -> u32 {
         b'W' => calls::world_view_projection(image, lent),
         b'A' => calls::set_material(image, lent),
         b'B' => calls::material(image, lent),
-        b'L' => calls::set_light_at(image, a, lent),
-        _ => calls::get_light_at(image, a, lent),
+        b'L' => light_calls::set_light_at(image, a, lent),
+        _ => light_calls::get_light_at(image, a, lent),
     }
 }
 

@@ -25,11 +25,11 @@ fn whole_call(letter: u8, len: u32, image: &mut [u8]) -> Reply {
 fn number_code(letter: u8, a: u32, b: u32, image: &mut [u8], number: &mut u32) -> u32 {
     match letter {
         b'P' => calls::world_palette_used(image, number),
-        b'E' => calls::set_light_enabled_at(image, a, b),
-        b'N' => calls::is_light_enabled_at(image, a, number),
-        b'D' => calls::is_light_defined_at(image, a, number),
-        b'V' => calls::vs_source_light_inputs(image, number),
-        b'C' => calls::compacted_light_masks(image, number),
+        b'E' => light_calls::set_light_enabled_at(image, a, b),
+        b'N' => light_calls::is_light_enabled_at(image, a, number),
+        b'D' => light_calls::is_light_defined_at(image, a, number),
+        b'V' => light_calls::vs_source_light_inputs(image, number),
+        b'C' => light_calls::compacted_light_masks(image, number),
         b'K' => calls::mark_ff_vs_dirty(image, a),
         _ => calls::take_ff_vs_dirty(image, number),
     }

@@ -26,13 +26,13 @@
 //     W - LEN       calls::world_view_projection
 //     A - LEN       calls::set_material
 //     B - LEN       calls::material
-//     L INDEX LEN   calls::set_light_at
-//     E INDEX ON    calls::set_light_enabled_at
-//     G INDEX LEN   calls::get_light_at
-//     N INDEX -     calls::is_light_enabled_at
-//     D INDEX -     calls::is_light_defined_at
-//     V - -         calls::vs_source_light_inputs
-//     C - -         calls::compacted_light_masks
+//     L INDEX LEN   light_calls::set_light_at
+//     E INDEX ON    light_calls::set_light_enabled_at
+//     G INDEX LEN   light_calls::get_light_at
+//     N INDEX -     light_calls::is_light_enabled_at
+//     D INDEX -     light_calls::is_light_defined_at
+//     V - -         light_calls::vs_source_light_inputs
+//     C - -         light_calls::compacted_light_masks
 //     K BITS -      calls::mark_ff_vs_dirty
 //     Q - -         calls::take_ff_vs_dirty
 //     R - LEN       refresh_calls::refresh under the key, on the mirror's first LEN bytes

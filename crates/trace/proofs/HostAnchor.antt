@@ -21,12 +21,12 @@ use Rattle.calls.proofs.set_material.Kinds as call-set-material-kinds
 use Rattle.calls.proofs.set_material.Reads as call-set-material-reads
 use Rattle.host.proofs.materials.ff_set_material.Kinds as ff-set-material-kinds
 use Rattle.host.proofs.materials.ff_set_material.Reads as ff-set-material-reads
-use Rattle.calls.proofs.set_light_at.Kinds as call-set-light-kinds
-use Rattle.calls.proofs.set_light_at.Reads as call-set-light-reads
+use Rattle.light_calls.proofs.set_light_at.Kinds as call-set-light-kinds
+use Rattle.light_calls.proofs.set_light_at.Reads as call-set-light-reads
 use Rattle.host.proofs.lights.ff_set_light_at.Kinds as ff-set-light-kinds
 use Rattle.host.proofs.lights.ff_set_light_at.Reads as ff-set-light-reads
-use Rattle.calls.proofs.set_light_enabled_at.Kinds as call-enable-light-kinds
-use Rattle.calls.proofs.set_light_enabled_at.Reads as call-enable-light-reads
+use Rattle.light_calls.proofs.set_light_enabled_at.Kinds as call-enable-light-kinds
+use Rattle.light_calls.proofs.set_light_enabled_at.Reads as call-enable-light-reads
 use Rattle.host.proofs.lights.ff_set_light_enabled_at.Kinds as ff-enable-light-kinds
 use Rattle.host.proofs.lights.ff_set_light_enabled_at.Reads as ff-enable-light-reads
 use Rattle.calls.proofs.mark_ff_vs_dirty.Kinds as call-mark-kinds

@@ -18,7 +18,7 @@ use Rattle.sections.specs.declared.key.FfVsKey.{FfVsKey}
 use Rattle.d3d9_model.specs.Operations.{OperationOn, Operation, setTransform, multiplyTransform, setMaterial, setLight, enableLight, mark}
 use Rattle.calls.specs.Answer.{Answer}
 use Rattle.calls.specs.Bits.{ffMarkFfVsDirty}
-use Rattle.calls.specs.Lights.{ffSetLightAt, ffSetLightEnabledAt}
+use Rattle.light_calls.specs.Lights.{ffSetLightAt, ffSetLightEnabledAt}
 use Rattle.calls.specs.Materials.{ffSetMaterial}
 use Rattle.calls.specs.Transforms.{ffSetTransform, ffMultiplyTransform}
 

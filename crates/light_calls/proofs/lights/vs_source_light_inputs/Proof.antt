@@ -1,11 +1,11 @@
--- `calls::lights::vs_source_light_inputs` meets its contract. Past 9 the call never refuses.
+-- `light_calls::lights::vs_source_light_inputs` meets its contract. Past 9 the call never refuses.
 -- Assumes nothing.
 use mathlib.Core.Path.{refl, sym, ap, _∙_}
 use Rattle.ff_state.specs.Active.{vsSourceLightInputs}
 use Rattle.calls.proofs.Calls.{image-fits, reading-nine, reading-done}
 use borrow.Author.Needs.{needs}
-use Rattle.calls.proofs.lights.vs_source_light_inputs.Statement.{statement}
-use Rattle.calls.proofs.lights.vs_source_light_inputs.Tie as tie
+use Rattle.light_calls.proofs.lights.vs_source_light_inputs.Statement.{statement}
+use Rattle.light_calls.proofs.lights.vs_source_light_inputs.Tie as tie
 
 image-refused-requires : tie.Need-image-refused-requires
 image-refused-requires c κs = search needs

@@ -1,12 +1,12 @@
--- `calls::lights::compacted_light_masks` meets its contract. Past 9 the call never refuses.
+-- `light_calls::lights::compacted_light_masks` meets its contract. Past 9 the call never refuses.
 -- Assumes nothing.
 use mathlib.Core.Path.{refl, sym, ap, _∙_}
 use Rattle.ff_state.specs.Active.{compactedLightMasks}
-use Rattle.calls.specs.Lights.{maskBytes}
+use Rattle.light_calls.specs.Lights.{maskBytes}
 use Rattle.calls.proofs.Calls.{image-fits, reading-nine, reading-done}
 use borrow.Author.Needs.{needs}
-use Rattle.calls.proofs.lights.compacted_light_masks.Statement.{statement}
-use Rattle.calls.proofs.lights.compacted_light_masks.Tie as tie
+use Rattle.light_calls.proofs.lights.compacted_light_masks.Statement.{statement}
+use Rattle.light_calls.proofs.lights.compacted_light_masks.Tie as tie
 
 image-refused-requires : tie.Need-image-refused-requires
 image-refused-requires c κs = search needs

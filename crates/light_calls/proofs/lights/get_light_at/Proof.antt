@@ -1,15 +1,15 @@
--- `calls::lights::get_light_at` meets its contract. The read decides between 2 and a light, whose 104 bytes stand over the whole of `out`.
+-- `light_calls::lights::get_light_at` meets its contract. The read decides between 2 and a light, whose 104 bytes stand over the whole of `out`.
 -- Assumes nothing.
 use mathlib.Core.Path.{sym, ap, _∙_}
 use Rattle.codec.specs.Light.{lightBytes}
 use Rattle.codec.proofs.Laws.Light.{put-lightBytes}
 use Rattle.ff_state.specs.Lights.{getLightAt, lightReadNumber}
-use Rattle.calls.specs.Lights.{lightReadLight}
+use Rattle.light_calls.specs.Lights.{lightReadLight}
 use Rattle.calls.proofs.Answers.{length-right, length-wrong}
 use Rattle.calls.proofs.Calls.{image-fits, reading-nine, reading-own, reading-length, reading-done}
 use borrow.Author.Needs.{needs}
-use Rattle.calls.proofs.lights.get_light_at.Statement.{statement}
-use Rattle.calls.proofs.lights.get_light_at.Tie as tie
+use Rattle.light_calls.proofs.lights.get_light_at.Statement.{statement}
+use Rattle.light_calls.proofs.lights.get_light_at.Tie as tie
 
 image-refused-requires : tie.Need-image-refused-requires
 image-refused-requires c κs = search needs

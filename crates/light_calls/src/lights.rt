@@ -1,8 +1,8 @@
 // Calls on lights, 104 bytes each. A full table is refused 3 and an undefined light 2, before the length of a slice.
 ghost use mathlib.Core.Path.{_≡_};
 ghost use Rattle.calls.specs.Answer.{answer};
-ghost use Rattle.calls.specs.Lights.{ffSetLightAt, ffSetLightEnabledAt, ffGetLightAt, ffIsLightEnabledAt, ffIsLightDefinedAt, ffVsSourceLightInputs, ffCompactedLightMasks};
-use crate::images::put_state;
+ghost use Rattle.light_calls.specs.Lights.{ffSetLightAt, ffSetLightEnabledAt, ffGetLightAt, ffIsLightEnabledAt, ffIsLightDefinedAt, ffVsSourceLightInputs, ffCompactedLightMasks};
+use calls::put_state;
 use codec::light_at;
 use codec::put_light;
 use ff_state::LightRead;

@@ -1,4 +1,4 @@
--- `calls::lights::set_light_enabled_at` meets its contract. The room decides 3, and past it the image of the changed state is written.
+-- `light_calls::lights::set_light_enabled_at` meets its contract. The room decides 3, and past it the image of the changed state is written.
 -- Assumes nothing.
 use mathlib.Core.Path.{refl, sym, ap, _∙_}
 use borrow.Author.Tests.{not-true, not-false}
@@ -7,11 +7,11 @@ use lib.Dec.{eqb}
 use Rattle.ff_state.specs.Lights.{hasRoom, setLightEnabledAt}
 use Rattle.ff_state.specs.declared.lights.LightChanged.{LightChanged}
 use Rattle.image.specs.Format.{imageBytes}
 use Rattle.calls.proofs.Calls.{image-long, image-fits, changing-nine, changing-own, changing-done}
 use Rattle.calls.proofs.Numbers.{enable-full, enable-room}
 use borrow.Author.Needs.{needs}
-use Rattle.calls.proofs.lights.set_light_enabled_at.Statement.{statement}
-use Rattle.calls.proofs.lights.set_light_enabled_at.Tie as tie
+use Rattle.light_calls.proofs.lights.set_light_enabled_at.Statement.{statement}
+use Rattle.light_calls.proofs.lights.set_light_enabled_at.Tie as tie
 
 image-refused-requires : tie.Need-image-refused-requires
 image-refused-requires c κs = search needs

@@ -1,4 +1,4 @@
--- `calls::lights::set_light_at` meets its contract. The room decides 3 before the length decides 4, and past them the image of the changed state is written.
+-- `light_calls::lights::set_light_at` meets its contract. The room decides 3 before the length decides 4, and past them the image of the changed state is written.
 -- Assumes nothing.
 use mathlib.Core.Path.{sym, ap, ap₂, _∙_}
 use borrow.Author.Tests.{not-true, not-false}
@@ -6,12 +6,12 @@ use Rattle.codec.specs.Light.{lightAt}
 use Rattle.ff_state.specs.Lights.{hasRoom, setLightAt}
 use Rattle.ff_state.specs.declared.lights.LightChanged.{LightChanged}
 use Rattle.image.specs.Format.{imageBytes}
 use Rattle.calls.proofs.Answers.{length-right, length-wrong}
 use Rattle.calls.proofs.Calls.{image-long, image-fits, changing-nine, changing-own, changing-length, changing-done}
 use Rattle.calls.proofs.Numbers.{set-full, set-room}
 use borrow.Author.Needs.{needs}
-use Rattle.calls.proofs.lights.set_light_at.Statement.{statement}
-use Rattle.calls.proofs.lights.set_light_at.Tie as tie
+use Rattle.light_calls.proofs.lights.set_light_at.Statement.{statement}
+use Rattle.light_calls.proofs.lights.set_light_at.Tie as tie
 
 image-refused-requires : tie.Need-image-refused-requires
 image-refused-requires c κs = search needs

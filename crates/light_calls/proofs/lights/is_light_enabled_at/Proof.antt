@@ -1,12 +1,12 @@
--- `calls::lights::is_light_enabled_at` meets its contract. Past 9 the call never refuses.
+-- `light_calls::lights::is_light_enabled_at` meets its contract. Past 9 the call never refuses.
 -- Assumes nothing.
 use mathlib.Core.Path.{refl, sym, ap, _∙_}
 use Rattle.ff_state.specs.Lights.{isLightEnabledAt, flag}
 use Rattle.words.proofs.Words.{flag-is}
 use Rattle.calls.proofs.Calls.{image-fits, reading-nine, reading-done}
 use borrow.Author.Needs.{needs}
-use Rattle.calls.proofs.lights.is_light_enabled_at.Statement.{statement}
-use Rattle.calls.proofs.lights.is_light_enabled_at.Tie as tie
+use Rattle.light_calls.proofs.lights.is_light_enabled_at.Statement.{statement}
+use Rattle.light_calls.proofs.lights.is_light_enabled_at.Tie as tie
 
 image-refused-requires : tie.Need-image-refused-requires
 image-refused-requires c κs = search needs
