@@ -8,7 +8,7 @@ use lib.Bits.{bitOr, or-lt}
 use borrow.Author.Tests.{leb-true}
 use Rattle.lemmas.proofs.Branch.{branch}
 use Rattle.d3d9_model.specs.State.{AbstractState}
-use Rattle.ff_state.specs.State.{withFfVsDirty}
+use Rattle.ff_state.specs.State.{withFfVsDirty, dirtyWord}
 use Rattle.sections.specs.Sections.{allBits}
 use Rattle.ff_state.specs.Dirty.{dirtied, markFfVsDirty, markNumber, takeFfVsDirty}
 use Rattle.ff_state.specs.Valid.{Valid}
@@ -32,7 +32,7 @@ dirty-kept d h v =
 
 pub dirtied-valid : {s : FfState} (bits : ℕ) → bits ≤ allBits → Valid s → Valid (dirtied s bits)
 unfolding dirtied
-dirtied-valid {s} bits h v = dirty-kept (bitOr (s .«ff_vs_dirty») bits) (omega (arith, or-lt 6 (s .«ff_vs_dirty») bits (omega (arith, v .dirty)) (omega arith))) v
+dirtied-valid {s} bits h v = dirty-kept (bitOr (dirtyWord s) bits) (omega (arith, or-lt 6 (dirtyWord s) bits (omega (arith, v .dirty)) (omega arith))) v
 
 pub taken-valid : {s : FfState} → Valid s → Valid (takeFfVsDirty s .state)
 unfolding takeFfVsDirty
@@ -53,7 +53,7 @@ bits-agree d g =
 
 pub dirtied-agrees : {s : FfState} {a : AbstractState} (bits : ℕ) → Agrees s a → Agrees (dirtied s bits) a
 unfolding dirtied
-dirtied-agrees {s} bits g = bits-agree (bitOr (s .«ff_vs_dirty») bits) g
+dirtied-agrees {s} bits g = bits-agree (bitOr (dirtyWord s) bits) g
 
 pub taken-agrees : {s : FfState} {a : AbstractState} → Agrees s a → Agrees (takeFfVsDirty s .state) a
 unfolding takeFfVsDirty

@@ -19,7 +19,7 @@ use Rattle.ff_state.specs.Active.{activeLights, lightActiveMask}
 use Rattle.light_table.specs.Overflow.{usedCount, insertedAt}
 use Rattle.sections.specs.Sections.{bitOf, bitPlace, hasSection, allBits}
 use Rattle.words.specs.Bits.{hasBit, withBit}
-use Rattle.ff_state.specs.State.{noMatrix, withMaterial, withLightEnabled, withOverflowLights, withOverflowCount}
+use Rattle.ff_state.specs.State.{noMatrix, withMaterial, withLightEnabled, withOverflowLights, withOverflowCount, dirtyWord}
 use Rattle.light_table.specs.Entry.{entry}
 use Rattle.ff_state.specs.Dirty.{dirtied, markFfVsDirty, takeFfVsDirty}
 use Rattle.ff_state.specs.Transforms.{slotOf, placeSections, placeBits, placed, matrixAt, changeAt}
@@ -44,9 +44,9 @@ use Rattle.ff_state.specs.declared.transforms.Slot.the-variants.{At, Unk
 use Rattle.words.proofs.Words.{has-or}
 
 -- a bit that is not set after marking was not among those marked
-unmarked : (s : FfState) (bits : ℕ) (σ : Section) → hasSection (dirtied s bits .«ff_vs_dirty») σ ≡ false → hasSection bits σ ≡ false
+unmarked : (s : FfState) (bits : ℕ) (σ : Section) → hasSection (dirtyWord (dirtied s bits)) σ ≡ false → hasSection bits σ ≡ false
 unfolding dirtied
-unmarked s bits σ e = neither (hasBit (s .«ff_vs_dirty») (bitPlace σ)) (hasBit bits (bitPlace σ)) (sym (has-or (s .«ff_vs_dirty») bits (bitPlace σ)) ∙ e) .1
+unmarked s bits σ e = neither (hasBit (dirtyWord s) (bitPlace σ)) (hasBit bits (bitPlace σ)) (sym (has-or (dirtyWord s) bits (bitPlace σ)) ∙ e) .1
 
 same : (σ : Section) (s : FfState) → sameInputs σ s s
 same Wv s = (refl, refl)
@@ -101,14 +101,14 @@ placed-same s (Places.Palette (suc i)) m Lights e = (refl, refl)
 placed-same s (Places.Palette (suc i)) m Palette e = never (rw (eqb·suc-zero i) at e)
 placed-same s (Places.Palette (suc i)) m Tt e = refl
 
-place-same : (s : FfState) (p : Slot) (f : Place → D3DMATRIX) (σ : Section) → hasSection (changeAt s p f .state .«ff_vs_dirty») σ ≡ false → sameInputs σ s (changeAt s p f .state)
+place-same : (s : FfState) (p : Slot) (f : Place → D3DMATRIX) (σ : Section) → hasSection (dirtyWord (changeAt s p f .state)) σ ≡ false → sameInputs σ s (changeAt s p f .state)
 unfolding changeAt
 place-same s (At p) f σ e = marked-same σ s (placed s p (f p)) (placeBits p) (placed-same s p (f p) σ (unmarked (placed s p (f p)) (placeBits p) σ e))
 place-same s Unknown f σ e = same σ s
 
 -- ---- the material
 
-material-same : (s : FfState) (m : D3DMATERIAL9) (σ : Section) → hasSection (Materials.setMaterial s m .«ff_vs_dirty») σ ≡ false → sameInputs σ s (Materials.setMaterial s m)
+material-same : (s : FfState) (m : D3DMATERIAL9) (σ : Section) → hasSection (dirtyWord (Materials.setMaterial s m)) σ ≡ false → sameInputs σ s (Materials.setMaterial s m)
 unfolding Materials.setMaterial hasBit activeLights lightActiveMask
 material-same s m σ e = marked-same σ s (withMaterial s m) (bitOf Material) (stored σ (unmarked (withMaterial s m) (bitOf Material) σ e))
   where
@@ -125,7 +125,7 @@ material-same s m σ e = marked-same σ s (withMaterial s m) (bitOf Material) (s
 abbrev OnlyLights : FfState → FfState → Type 0
 OnlyLights s t = (σ : Section) → hasSection lightsBit σ ≡ false → sameInputs σ s t
 
-lights-same : (s t : FfState) (σ : Section) → OnlyLights s t → hasSection (dirtied t lightsBit .«ff_vs_dirty») σ ≡ false → sameInputs σ s (dirtied t lightsBit)
+lights-same : (s t : FfState) (σ : Section) → OnlyLights s t → hasSection (dirtyWord (dirtied t lightsBit)) σ ≡ false → sameInputs σ s (dirtied t lightsBit)
 lights-same s t σ h e = marked-same σ s t lightsBit (h σ (unmarked t lightsBit σ e))
 
 set-slot-only : (s : FfState) (i : ℕ) (l : D3DLIGHT9) → OnlyLights s (setSlot s i l)
@@ -168,7 +168,7 @@ entries-only s es n Tt e = refl
 
 -- an answer whose state keeps the inputs of every section that it leaves unmarked
 abbrev Keeps : FfState → Section → LightChanged → Type 0
-Keeps s σ r = hasSection (r .state .«ff_vs_dirty») σ ≡ false → sameInputs σ s (r .state)
+Keeps s σ r = hasSection (dirtyWord (r .state)) σ ≡ false → sameInputs σ s (r .state)
 
 replace-keeps : (s : FfState) (at : ℕ) (x : OverflowLight) (σ : Section) → Keeps s σ (replaceEntry s at x)
 unfolding replaceEntry
@@ -220,7 +220,7 @@ taken-same s Tt = refl
 
 -- ---- every call
 
-pub unmarked-same : (s : FfState) (op : Operation) (σ : Section) → hasSection (operate s op .state .«ff_vs_dirty») σ ≡ false → sameInputs σ s (operate s op .state)
+pub unmarked-same : (s : FfState) (op : Operation) (σ : Section) → hasSection (dirtyWord (operate s op .state)) σ ≡ false → sameInputs σ s (operate s op .state)
 unfolding operate Transforms.setTransform Transforms.multiplyTransform
 unmarked-same s (setTransform n m) σ e = place-same s (slotOf n) (λ (p : Place). m) σ e
 unmarked-same s (multiplyTransform n m) σ e = place-same s (slotOf n) (λ (p : Place). matMul (matrixAt s p) m) σ e

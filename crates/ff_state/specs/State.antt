@@ -317,6 +317,10 @@ withFfVsDirty s x =
       «ff_vs_dirty» = x;
     }
 
+-- the dirty bits, by section
+abbrev pub dirtyWord : FfState → ℕ
+dirtyWord s = s .«ff_vs_dirty»
+
 -- What the language gives past the end of an array of matrices. No array of a state is shorter than its indices, so it is never read.
 abbrev pub noMatrix : D3DMATRIX
 noMatrix = let r : Row = record { x = nan; y = nan; z = nan; w = nan } in record { r0 = r; r1 = r; r2 = r; r3 = r }

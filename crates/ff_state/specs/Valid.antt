@@ -15,7 +15,7 @@ use Rattle.light_table.specs.declared.entry.OverflowLight.{OverflowLight}
 use Rattle.sections.specs.Sections.{allBits}
 use Rattle.words.specs.Bits.{hasBit}
 use Rattle.light_table.specs.Entry.{zeroEntry}
-use Rattle.ff_state.specs.State.{noMatrix}
+use Rattle.ff_state.specs.State.{noMatrix, dirtyWord}
 use Rattle.light_table.specs.Kinds.{contributes}
 use Rattle.ff_state.specs.Overflow.{usedEntries}
 use Rattle.light_table.specs.Overflow.{ascending}
@@ -64,7 +64,7 @@ pub record Valid (s : FfState) : Type 0 where
   pub lights-length : length (s .lights) ≡ 8
   pub overflow-length : length (s .«overflow_lights») ≡ 56
   pub high-water : s .«world_palette_high_water» ≤ 255
-  pub dirty : s .«ff_vs_dirty» ≤ allBits
+  pub dirty : dirtyWord s ≤ allBits
   pub slots : SlotsValid (s .lights) (s .«light_enabled») (s .«light_set_mask») (s .«light_defined_mask») (s .«light_directional_mask») (s .«light_spot_mask»)
   pub overflow : OverflowValid (s .«overflow_lights») (s .«overflow_count»)
   pub floats : FloatsValid (s .view) (s .projection) (s .«world_palette») (s .«texture_transforms») (s .material) (s .lights) (s .«overflow_lights»)

@@ -10,6 +10,7 @@ use Rattle.codec.proofs.Laws.Little.{length-littleBytes}
 use Rattle.codec.proofs.Laws.Matrix.{length-matrixBytes}
 use Rattle.codec.proofs.Laws.Material.{length-materialBytes}
 use Rattle.codec.proofs.Laws.Light.{length-lightBytes}
+use Rattle.ff_state.specs.State.{dirtyWord}
 use Rattle.ff_state.specs.declared.state.FfState.{FfState}
 use Rattle.ff_state.specs.Valid.{Valid}
 use Rattle.image_lists.specs.Entry.{entryBytes}
@@ -37,7 +38,7 @@ module _ (s : FfState) (z : Sized s) where
         z .lights,
         length-littleBytes 1 (s .«light_enabled»),
         length-littleBytes 1 (s .«light_defined_mask»),
-        length-littleBytes 1 (s .«ff_vs_dirty»),
+        length-littleBytes 1 (dirtyWord s),
         length-littleBytes 1 0,
         length-littleBytes 2 (s .«world_palette_high_water»),
         length-littleBytes 2 (s .«overflow_count»),

@@ -7,6 +7,7 @@ use Rattle.codec.specs.Little.{littleBytes}
 use Rattle.codec.specs.Matrix.{matrixBytes}
 use Rattle.codec.specs.Material.{materialBytes}
 use Rattle.codec.specs.Light.{lightBytes}
+use Rattle.ff_state.specs.State.{dirtyWord}
 use Rattle.ff_state.specs.declared.state.FfState.{FfState}
 use Rattle.image_lists.specs.Lists.{listBytes}
 use Rattle.image_lists.specs.Entry.{entryBytes}
@@ -23,7 +24,7 @@ imageTable s =
     ∷ field 17_092 (listBytes lightBytes (s .lights))
     ∷ field 17_924 (littleBytes 1 (s .«light_enabled»))
     ∷ field 17_925 (littleBytes 1 (s .«light_defined_mask»))
-    ∷ field 17_926 (littleBytes 1 (s .«ff_vs_dirty»))
+    ∷ field 17_926 (littleBytes 1 (dirtyWord s))
     ∷ field 17_927 (littleBytes 1 0)
     ∷ field 17_928 (littleBytes 2 (s .«world_palette_high_water»))
     ∷ field 17_930 (littleBytes 2 (s .«overflow_count»))

@@ -10,6 +10,7 @@ use Rattle.codec.specs.Little.{littleBytes, Bytes}
 use Rattle.codec.specs.Matrix.{matrixBytes}
 use Rattle.codec.specs.Light.{lightBytes}
 use Rattle.codec.specs.Material.{materialBytes}
+use Rattle.ff_state.specs.State.{dirtyWord}
 use Rattle.ff_state.specs.declared.state.FfState.{FfState}
 use Rattle.d3d9_types.specs.declared.light.D3DLIGHT9.{D3DLIGHT9}
 use Rattle.d3d9_types.specs.declared.material.D3DMATERIAL9.{D3DMATERIAL9}
@@ -83,7 +84,7 @@ image-bytes s =
     also list-are lightBytes light-are (s .lights)
     also little-are 1 (s .«light_enabled»)
     also little-are 1 (s .«light_defined_mask»)
-    also little-are 1 (s .«ff_vs_dirty»)
+    also little-are 1 (dirtyWord s)
     also little-are 1 0
     also little-are 2 (s .«world_palette_high_water»)
     also little-are 2 (s .«overflow_count»)

@@ -20,7 +20,7 @@ use Rattle.d3d9_types.specs.declared.material.D3DMATERIAL9.{D3DMATERIAL9}
 use Rattle.d3d9_types.specs.declared.matrix.D3DMATRIX.{D3DMATRIX}
 use Rattle.light_table.specs.Entry.{zeroEntry}
 use Rattle.light_table.specs.declared.entry.OverflowLight.{OverflowLight}
-use Rattle.ff_state.specs.State.{noMatrix}
+use Rattle.ff_state.specs.State.{noMatrix, dirtyWord}
 use Rattle.ff_state.specs.declared.state.FfState.{FfState}
 use Rattle.image_lists.specs.Entry.{entryBytes, entryAt}
 use Rattle.image_lists.specs.Lists.{listBytes, listAt}
@@ -42,7 +42,7 @@ pub record Written (s : FfState) (bytes : List ℕ) : Type 0 where
   pub lights : Holds bytes (field 17_092 (listBytes lightBytes (s .lights)))
   pub enabled : Holds bytes (field 17_924 (littleBytes 1 (s .«light_enabled»)))
   pub defined : Holds bytes (field 17_925 (littleBytes 1 (s .«light_defined_mask»)))
-  pub dirty : Holds bytes (field 17_926 (littleBytes 1 (s .«ff_vs_dirty»)))
+  pub dirty : Holds bytes (field 17_926 (littleBytes 1 (dirtyWord s)))
   pub zero : Holds bytes (field 17_927 (littleBytes 1 0))
   pub index : Holds bytes (field 17_928 (littleBytes 2 (s .«world_palette_high_water»)))
   pub count : Holds bytes (field 17_930 (littleBytes 2 (s .«overflow_count»)))

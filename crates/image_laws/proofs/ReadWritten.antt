@@ -14,6 +14,7 @@ use Rattle.d3d9_types.specs.declared.material.D3DMATERIAL9.{D3DMATERIAL9}
 use Rattle.d3d9_types.specs.declared.matrix.D3DMATRIX.{D3DMATRIX}
 use Rattle.light_table.specs.Entry.{zeroEntry}
 use Rattle.light_table.specs.declared.entry.OverflowLight.{OverflowLight}
+use Rattle.ff_state.specs.State.{dirtyWord}
 use Rattle.ff_state.specs.Valid.{Valid}
 use Rattle.ff_state.specs.declared.state.FfState.{FfState}
 use Rattle.image_lists.specs.Masks.{setMask, typeMask, slotSet, slotIs}
@@ -28,7 +29,7 @@ use Rattle.image_laws.proofs.Fields.{written, number-reads, matrix-read
 fields-are : (s : FfState) {view projection : D3DMATRIX} {palette texture : List D3DMATRIX} {material : D3DMATERIAL9} {lights : List D3DLIGHT9} {entries : List OverflowLight}
     {index enabled set defined directional spot count dirty : ℕ} → view ≡ s .view → projection ≡ s .projection → palette ≡ s .«world_palette» → index ≡ s .«world_palette_high_water»
     → texture ≡ s .«texture_transforms» → material ≡ s .material → lights ≡ s .lights → enabled ≡ s .«light_enabled» → set ≡ s .«light_set_mask» → defined ≡ s .«light_defined_mask»
-    → directional ≡ s .«light_directional_mask» → spot ≡ s .«light_spot_mask» → entries ≡ s .«overflow_lights» → count ≡ s .«overflow_count» → dirty ≡ s .«ff_vs_dirty»
+    → directional ≡ s .«light_directional_mask» → spot ≡ s .«light_spot_mask» → entries ≡ s .«overflow_lights» → count ≡ s .«overflow_count» → dirty ≡ dirtyWord s
     → record {
       view = view;
       projection = projection;
@@ -112,4 +113,4 @@ module _ (s : FfState) (v : Valid s) where
       (ap₂ (typeMask 2) defined lights ∙ spot-mask-is)
       (entries-read 56 (s .«overflow_lights») (v .overflow-length) entry-fits (w .entries))
       (number-reads 2 (s .«overflow_count») (omega (arith, v .overflow .count)) (w .count))
-      (number-reads 1 (s .«ff_vs_dirty») (omega (arith, v .dirty)) (w .dirty))
+      (number-reads 1 (dirtyWord s) (omega (arith, v .dirty)) (w .dirty))

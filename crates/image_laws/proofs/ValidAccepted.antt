@@ -20,7 +20,7 @@ use Rattle.words.specs.Bits.{hasBit}
 use Rattle.light_table.specs.Entry.{zeroEntry}
 use Rattle.light_table.specs.Overflow.{usedCount}
 use Rattle.light_table.specs.declared.entry.OverflowLight.{OverflowLight}
-use Rattle.ff_state.specs.State.{noMatrix}
+use Rattle.ff_state.specs.State.{noMatrix, dirtyWord}
 use Rattle.ff_state.specs.Valid.{Valid, slotLight}
 use Rattle.ff_state.specs.declared.state.FfState.{FfState}
 use Rattle.image_lists.specs.Entry.{entryBytes, entryAt}
@@ -146,7 +146,7 @@ module _ (s : FfState) (v : Valid s) (bytes : List ℕ) (w : Written s bytes) wh
       let count : countOf bytes ≡ s .«overflow_count» = ap (λ (t : FfState). t .«overflow_count») read in
       let enabled : numberAt 1 bytes 17_924 ≡ s .«light_enabled» = ap (λ (t : FfState). t .«light_enabled») read in
       let defined : numberAt 1 bytes 17_925 ≡ s .«light_defined_mask» = ap (λ (t : FfState). t .«light_defined_mask») read in
-      let dirty : numberAt 1 bytes 17_926 ≡ s .«ff_vs_dirty» = ap (λ (t : FfState). t .«ff_vs_dirty») read in
+      let dirty : numberAt 1 bytes 17_926 ≡ dirtyWord s = ap (λ (t : FfState). dirtyWord t) read in
       let index : numberAt 2 bytes 17_928 ≡ s .«world_palette_high_water» = ap (λ (t : FfState). t .«world_palette_high_water») read in
       let entries : listAt entryAt 112 56 bytes 17_932 ≡ s .«overflow_lights» = ap (λ (t : FfState). t .«overflow_lights») read in
       record {

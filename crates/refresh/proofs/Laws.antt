@@ -7,6 +7,7 @@ use mathlib.Core.List.{List}
 use lib.Ieee.{Float, nan}
 use lib.ListN.{length, getD}
 use Rattle.codec.proofs.Put.{Outside}
+use Rattle.ff_state.specs.State.{dirtyWord}
 use Rattle.ff_state.specs.Dirty.{takeFfVsDirty}
 use Rattle.ff_state.specs.Inputs.{sameInputs}
 use Rattle.sections.specs.Sections.{sections, hasSection}
@@ -41,42 +42,42 @@ module _ (s : FfState) (k : FfVsKey) (m : List Float) (byte : k .«vertex_blend_
   long = accepted-fits s k (length m) is .long
 
   -- the outcome
-  pub accepted-is : refreshMirror s k m ≡ refreshed (acceptance (takeFfVsDirty s)) (written sections (s .«ff_vs_dirty») s k m)
+  pub accepted-is : refreshMirror s k m ≡ refreshed (acceptance (takeFfVsDirty s)) (written sections (dirtyWord s) s k m)
   unfolding refreshMirror refreshBy takeFfVsDirty
   accepted-is = ap (λ (a : RefreshAnswer). refreshBy a s k m) is
 
-  mirror-is : refreshMirror s k m .floats ≡ written sections (s .«ff_vs_dirty») s k m
+  mirror-is : refreshMirror s k m .floats ≡ written sections (dirtyWord s) s k m
   mirror-is = ap (λ (o : Outcome). o .floats) accepted-is
 
   state-is : refreshMirror s k m .result .state ≡ takeFfVsDirty s .state
   state-is = ap (λ (o : Outcome). o .result .state) accepted-is
 
   -- "The answer is the bits taken."
-  pub bits-taken : refreshMirror s k m .result .bits ≡ s .«ff_vs_dirty»
+  pub bits-taken : refreshMirror s k m .result .bits ≡ dirtyWord s
   unfolding takeFfVsDirty
   bits-taken = ap (λ (o : Outcome). o .result .bits) accepted-is
 
-  pub dirty-holds : (σ : Section) → hasSection (s .«ff_vs_dirty») σ ≡ true → Holds (refreshMirror s k m .floats) (firstFloat σ) (stateRows σ s k)
+  pub dirty-holds : (σ : Section) → hasSection (dirtyWord s) σ ≡ true → Holds (refreshMirror s k m .floats) (firstFloat σ) (stateRows σ s k)
   dirty-holds σ on =
-      subst (λ (x : List Float). Holds x (firstFloat σ) (stateRows σ s k)) (sym mirror-is) (written-on ready (s .«ff_vs_dirty») sections σ (every-in σ) on m long)
+      subst (λ (x : List Float). Holds x (firstFloat σ) (stateRows σ s k)) (sym mirror-is) (written-on ready (dirtyWord s) sections σ (every-in σ) on m long)
 
-  pub clean-holds : (σ : Section) → hasSection (s .«ff_vs_dirty») σ ≡ false → (p : List Float) → length p ≡ 4 * stateCount σ s k
+  pub clean-holds : (σ : Section) → hasSection (dirtyWord s) σ ≡ false → (p : List Float) → length p ≡ 4 * stateCount σ s k
       → Holds m (firstFloat σ) p → Holds (refreshMirror s k m .floats) (firstFloat σ) p
   clean-holds σ off p full h =
-      subst (λ (x : List Float). Holds x (firstFloat σ) p) (sym mirror-is) (written-off ready (s .«ff_vs_dirty») sections σ off m p long full h)
+      subst (λ (x : List Float). Holds x (firstFloat σ) p) (sym mirror-is) (written-off ready (dirtyWord s) sections σ off m p long full h)
 
   -- "Other rows keep their contents."
-  pub others-stay : (i : ℕ) → ((σ : Section) → hasSection (s .«ff_vs_dirty») σ ≡ true → Outside (firstFloat σ) (length (stateRows σ s k)) i)
+  pub others-stay : (i : ℕ) → ((σ : Section) → hasSection (dirtyWord s) σ ≡ true → Outside (firstFloat σ) (length (stateRows σ s k)) i)
       → getD (refreshMirror s k m .floats) i nan ≡ getD m i nan
   others-stay i out =
-      ap (λ (x : List Float). getD x i nan) mirror-is ∙ written-outside ready (s .«ff_vs_dirty») sections m long i out
+      ap (λ (x : List Float). getD x i nan) mirror-is ∙ written-outside ready (dirtyWord s) sections m long i out
 
   pub length-stays : length (refreshMirror s k m .floats) ≡ 4460
-  length-stays = ap (λ (x : List Float). length x) mirror-is ∙ written-length ready (s .«ff_vs_dirty») sections m long
+  length-stays = ap (λ (x : List Float). length x) mirror-is ∙ written-length ready (dirtyWord s) sections m long
 
-  pub none-dirty : refreshMirror s k m .result .state .«ff_vs_dirty» ≡ 0
+  pub none-dirty : dirtyWord (refreshMirror s k m .result .state) ≡ 0
   unfolding takeFfVsDirty
-  none-dirty = ap (λ (t : FfState). t .«ff_vs_dirty») state-is
+  none-dirty = ap (λ (t : FfState). dirtyWord t) state-is
 
   pub inputs-stay : (σ : Section) → sameInputs σ s (refreshMirror s k m .result .state)
   inputs-stay σ = subst (λ (t : FfState). sameInputs σ s t) (sym state-is) (taken-same s σ)

@@ -15,7 +15,7 @@ use Rattle.lemmas.proofs.Options.{some-is, not-some}
 use Rattle.codec.specs.Little.{Bytes}
 use Rattle.ff_state.specs.Dirty.{takeFfVsDirty}
 use Rattle.sections.specs.Sections.{sections}
-use Rattle.ff_state.specs.State.{freshState}
+use Rattle.ff_state.specs.State.{freshState, dirtyWord}
 use Rattle.ff_state.specs.Valid.{Valid}
 use Rattle.sections.specs.declared.sections.Section.{Section}
 use Rattle.ff_state.specs.declared.state.FfState.{FfState}
@@ -63,7 +63,7 @@ Right w k = (σ : Section) → w .track .exempt σ ≡ false → wrongRows w k �
 
 -- by document 01's rule: accepted, it leaves the sections written in the slice and the bits taken in the state; refused, both as they were
 pub data Leaves (s : FfState) (k : FfVsKey) (o : Option FfVsKey) (lent left : List Float) (h : Stored) : Type 0 where
-  writes : o ≡ some k → Ready s k → left ≡ written sections (s .«ff_vs_dirty») s k lent → Stands h (takeFfVsDirty s .state) → Leaves s k o lent left h
+  writes : o ≡ some k → Ready s k → left ≡ written sections (dirtyWord s) s k lent → Stands h (takeFfVsDirty s .state) → Leaves s k o lent left h
   refuses : o ≡ none → left ≡ lent → Stands h s → Leaves s k o lent left h
 
 -- the conditions of demand 3, of a slice by its floats
@@ -76,7 +76,7 @@ module _ {A : Type 0} (floatsOf : List A → List Float) {w : World} {s : FfStat
   refresh-good : (l : Lent A) → Lends floatsOf (w .track) k o l → Leaves s k o (floatsOf (slice l)) left h → Good (standing h (refreshedIf o (leaving l left w)))
   unfolding slice leaving ofMirror refreshedIf
   refresh-good (theMirror m) c (writes e ready is st) =
-      rw e (takeFfVsDirty s .state, after-refresh inv k ready (c .marked e) h left (is ∙ ap (written sections (s .«ff_vs_dirty») s k) (c .mirror (floatsOf m) refl)) st)
+      rw e (takeFfVsDirty s .state, after-refresh inv k ready (c .marked e) h left (is ∙ ap (written sections (dirtyWord s) s k) (c .mirror (floatsOf m) refl)) st)
   refresh-good (theMirror m) c (refuses e is st) = rw e (s, after-standing (after-left inv left (is ∙ c .mirror (floatsOf m) refl)) h st)
   refresh-good (another m) c (writes e ready is st) = absurd (c .lent e refl)
   refresh-good (another m) c (refuses e is st) = rw e (s, after-standing inv h st)
@@ -84,7 +84,7 @@ module _ {A : Type 0} (floatsOf : List A → List Float) {w : World} {s : FfStat
   refreshed-right : (l : Lent A) → Lends floatsOf (w .track) k o l → Leaves s k o (floatsOf (slice l)) left h → o ≡ some k → Right (standing h (refreshedIf o (leaving l left w))) k
   unfolding slice leaving ofMirror refreshedIf
   refreshed-right (theMirror m) c (writes e ready is st) q =
-      rw e (refresh-right inv k ready (c .marked e) h left (is ∙ ap (written sections (s .«ff_vs_dirty») s k) (c .mirror (floatsOf m) refl)))
+      rw e (refresh-right inv k ready (c .marked e) h left (is ∙ ap (written sections (dirtyWord s) s k) (c .mirror (floatsOf m) refl)))
   refreshed-right (another m) c (writes e ready is st) q = absurd (c .lent e refl)
   refreshed-right l c (refuses e is st) q = not-some (sym e ∙ q)
 
@@ -170,7 +170,7 @@ module _ {w : World} (a : IsAccepted (asImage (w .stored))) (inv : Invariant w (
           let taken = number-accepted (refreshAnswer (stateOf image) k 4460) (answer-number (inv .valid) (inv .agrees) k 4460 ∙ passed .1) in
           let ready = ready-for inv k fit 4460 taken in
           writes (y .1) ready
-          (ap (λ (r : HostRefreshed). mirrorFloats (r .mirror)) is ∙ written-floats ready (inv .valid) (stateOf image .«ff_vs_dirty») sections lent (passed .0))
+          (ap (λ (r : HostRefreshed). mirrorFloats (r .mirror)) is ∙ written-floats ready (inv .valid) (dirtyWord (stateOf image)) sections lent (passed .0))
           (written-stands _ _ (ap (λ (r : HostRefreshed). r .image) is) (taken-valid (inv .valid)))
 
       no : (refreshRefusal (w .abstract) k (eqb (length lent) 17_840) ≡ 0 → ⊥) × (accepts (w .abstract) k (eqb (length lent) 17_840) ≡ none)

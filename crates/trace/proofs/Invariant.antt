@@ -12,7 +12,7 @@ use Rattle.lemmas.proofs.Tests.{never}
 use Rattle.words.specs.Bits.{hasBit}
 use Rattle.ff_state.specs.Dirty.{takeFfVsDirty}
 use Rattle.sections.specs.Sections.{sections, hasSection}
-use Rattle.ff_state.specs.State.{freshState}
+use Rattle.ff_state.specs.State.{freshState, dirtyWord}
 use Rattle.ff_state.specs.Valid.{Valid}
 use Rattle.sections.specs.declared.sections.Section.{Section}
 use Rattle.sections.specs.declared.sections.Section.the-variants.{Wv, Proj, Material, Lights, Palette, Tt}
@@ -84,7 +84,7 @@ module _ {w : World} {s : FfState} (inv : Invariant w s) where
 
 -- ---- the start
 
-all-dirty : (σ : Section) → hasSection (freshState .«ff_vs_dirty») σ ≡ true
+all-dirty : (σ : Section) → hasSection (dirtyWord freshState) σ ≡ true
 unfolding freshState hasBit
 all-dirty Wv = refl
 all-dirty Proj = refl
@@ -157,7 +157,7 @@ module _ {w : World} {s : FfState} (inv : Invariant w s) where
   -- a refresh that is accepted and was lent the mirror, the list having marked what it has to
   module _ (k : FfVsKey) (ready : Ready s k) (kept : Marked (w .track) k) (h : Stored) where
     abbrev after : List Float
-    after = written sections (s .«ff_vs_dirty») s k (w .track .mirror)
+    after = written sections (dirtyWord s) s k (w .track .mirror)
 
     abbrev refreshed : List Float → World
     refreshed m = standing h (refreshedIf (some k) (tracking (withMirror m (w .track)) w))
@@ -169,7 +169,7 @@ module _ {w : World} {s : FfState} (inv : Invariant w s) where
           stands = st;
           agrees = taken-agrees (inv .agrees);
           valid = taken-valid (inv .valid);
-          whole = written-length ready (s .«ff_vs_dirty») sections (w .track .mirror) (inv .whole);
+          whole = written-length ready (dirtyWord s) sections (w .track .mirror) (inv .whole);
           tracked = λ σ. refresh-tracked (inv .valid) (inv .agrees) (w .track) k ready (inv .whole) kept σ (inv .tracked σ) (takeFfVsDirty s .state);
         }
 

@@ -17,6 +17,7 @@ use Rattle.light_table.specs.Overflow.{usedCount}
 use Rattle.light_table.specs.declared.entry.OverflowLight.{OverflowLight}
 use Rattle.light_table.specs.declared.overflow.Found.{Found}
 use Rattle.words.proofs.Words.{has-or}
+use Rattle.ff_state.specs.State.{dirtyWord}
 use Rattle.ff_state.specs.Dirty.{dirtied, markFfVsDirty, markNumber}
 use Rattle.ff_state.specs.Inputs.{sameInputs}
 use Rattle.ff_state.specs.Lights.{setLightAt, setLightEnabledAt, changeEntry, replaceEntry, insertEntry, lightsBit, lightNumber}
@@ -46,7 +47,7 @@ use Rattle.trace.specs.World.{marks}
 
 -- ---- each operation
 
-placed-dirty : (s : FfState) (p : Place) (m : D3DMATRIX) → placed s p m .«ff_vs_dirty» ≡ s .«ff_vs_dirty»
+placed-dirty : (s : FfState) (p : Place) (m : D3DMATRIX) → dirtyWord (placed s p m) ≡ dirtyWord s
 unfolding placed
 placed-dirty s Places.View m = refl
 placed-dirty s Places.Projection m = refl
@@ -54,19 +55,19 @@ placed-dirty s (Places.Texture i) m = refl
 placed-dirty s (Places.Palette i) m = refl
 
 place-bits : (s : FfState) (p : Slot) (f : Place → D3DMATRIX) → transformNumber (changeAt s p f .answer) ≡ 0
-    → changeAt s p f .state .«ff_vs_dirty» ≡ bitOr (s .«ff_vs_dirty») (slotBits p)
+    → dirtyWord (changeAt s p f .state) ≡ bitOr (dirtyWord s) (slotBits p)
 unfolding changeAt transformNumber slotBits dirtied
 place-bits s (At p) f e = ap (λ (d : ℕ). bitOr d (placeBits p)) (placed-dirty s p (f p))
 place-bits s Unknown f e = absurd (omega arith)
 
 -- an answer about lights: accepted, it adds the bit of LIGHTS
 abbrev Adds : FfState → LightChanged → Type 0
-Adds s r = lightNumber (r .answer) ≡ 0 → r .state .«ff_vs_dirty» ≡ bitOr (s .«ff_vs_dirty») lightsBit
+Adds s r = lightNumber (r .answer) ≡ 0 → dirtyWord (r .state) ≡ bitOr (dirtyWord s) lightsBit
 
-enabled-dirty : (s : FfState) (i : ℕ) (on : Bool) → enableSlot s i on .«ff_vs_dirty» ≡ s .«ff_vs_dirty»
+enabled-dirty : (s : FfState) (i : ℕ) (on : Bool) → dirtyWord (enableSlot s i on) ≡ dirtyWord s
 unfolding enableSlot defineSlot setSlot
 enabled-dirty s i on =
-    branch (λ (t : FfState). t .«ff_vs_dirty» ≡ s .«ff_vs_dirty») (hasBit (s .«light_defined_mask») i) s (setSlot s i defaultLight) (λ e. refl) (λ e. refl)
+    branch (λ (t : FfState). dirtyWord t ≡ dirtyWord s) (hasBit (s .«light_defined_mask») i) s (setSlot s i defaultLight) (λ e. refl) (λ e. refl)
 
 entry-adds : (s : FfState) (f : Found) (change : OverflowLight → OverflowLight) (made : OverflowLight) → Adds s (changeEntry s f change made)
 unfolding changeEntry replaceEntry insertEntry dirtied lightNumber
@@ -83,12 +84,12 @@ unfolding setLightEnabledAt dirtied
 enable-adds s i on =
     branch (Adds s) (ltb i 8) _ _ (λ t e. ap (λ (d : ℕ). bitOr d lightsBit) (enabled-dirty s i on)) (λ t. entry-adds s _ _ _)
 
-mark-adds : (s : FfState) (bits : ℕ) → markNumber (markFfVsDirty s bits .answer) ≡ 0 → markFfVsDirty s bits .state .«ff_vs_dirty» ≡ bitOr (s .«ff_vs_dirty») bits
+mark-adds : (s : FfState) (bits : ℕ) → markNumber (markFfVsDirty s bits .answer) ≡ 0 → dirtyWord (markFfVsDirty s bits .state) ≡ bitOr (dirtyWord s) bits
 unfolding markFfVsDirty markNumber dirtied
 mark-adds s bits =
-    branch (λ (r : Marked). markNumber (r .answer) ≡ 0 → r .state .«ff_vs_dirty» ≡ bitOr (s .«ff_vs_dirty») bits) (leb bits allBits) _ _ (λ t e. refl) (λ t e. absurd (omega arith))
+    branch (λ (r : Marked). markNumber (r .answer) ≡ 0 → dirtyWord (r .state) ≡ bitOr (dirtyWord s) bits) (leb bits allBits) _ _ (λ t e. refl) (λ t e. absurd (omega arith))
 
-accepted-bits : (s : FfState) (op : Operation) → operate s op .number ≡ 0 → operate s op .state .«ff_vs_dirty» ≡ bitOr (s .«ff_vs_dirty») (operationBits op)
+accepted-bits : (s : FfState) (op : Operation) → operate s op .number ≡ 0 → dirtyWord (operate s op .state) ≡ bitOr (dirtyWord s) (operationBits op)
 unfolding operate operationBits Transforms.setTransform Transforms.multiplyTransform Materials.setMaterial dirtied
 accepted-bits s (setTransform n m) e = place-bits s (slotOf n) _ e
 accepted-bits s (multiplyTransform n m) e = place-bits s (slotOf n) _ e
@@ -100,12 +101,12 @@ accepted-bits s (mark bits) e = mark-adds s bits e
 -- ---- a section without its bit afterwards
 
 pub record Unmarked (s : FfState) (a : AbstractState) (op : Operation) (σ : Section) : Type 0 where
-  pub clean : hasSection (s .«ff_vs_dirty») σ ≡ false
+  pub clean : hasSection (dirtyWord s) σ ≡ false
   pub unmarked : marks a op σ ≡ false
   pub inputs : sameInputs σ s (operate s op .state)
 
 pub left-clean : {s : FfState} {a : AbstractState} → Valid s → Agrees s a → (op : Operation) (σ : Section)
-    → hasSection (operate s op .state .«ff_vs_dirty») σ ≡ false → Unmarked s a op σ
+    → hasSection (dirtyWord (operate s op .state)) σ ≡ false → Unmarked s a op σ
 unfolding marks
 left-clean {s} {a} v g op σ off = go (eqb (abstractRefusal a op) 0) refl
   where
@@ -118,9 +119,9 @@ left-clean {s} {a} v g op σ off = go (eqb (abstractRefusal a op) 0) refl
     go : (t : Bool) → eqb (abstractRefusal a op) 0 ≡ t → Unmarked s a op σ
     go true q =
         let e = accepted-bits s op (number ∙ eqb-true (abstractRefusal a op) 0 q) in
-        let h = neither (hasSection (s .«ff_vs_dirty») σ) (hasSection (operationBits op) σ)
-        (sym (has-or (s .«ff_vs_dirty») (operationBits op) (bitPlace σ)) ∙ ap (λ (d : ℕ). hasSection d σ) (sym e) ∙ off) in
+        let h = neither (hasSection (dirtyWord s) σ) (hasSection (operationBits op) σ)
+        (sym (has-or (dirtyWord s) (operationBits op) (bitPlace σ)) ∙ ap (λ (d : ℕ). hasSection d σ) (sym e) ∙ off) in
         record { clean = h .0; unmarked = rw (q, h .1); inputs = same }
     go false q =
         let e = refused-same s op (λ (z : operate s op .number ≡ 0). eqb-false (abstractRefusal a op) 0 q (sym number ∙ z)) in
-        record { clean = ap (λ (t : FfState). hasSection (t .«ff_vs_dirty») σ) (sym e) ∙ off; unmarked = ap (λ (t : Bool). t && hasSection (operationBits op) σ) q; inputs = same }
+        record { clean = ap (λ (t : FfState). hasSection (dirtyWord t) σ) (sym e) ∙ off; unmarked = ap (λ (t : Bool). t && hasSection (operationBits op) σ) q; inputs = same }

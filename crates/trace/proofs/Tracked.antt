@@ -14,6 +14,7 @@ use lib.Seq.{getD-set-other}
 use borrow.Author.Tests.{ltb-false, leb-false}
 use Rattle.lemmas.proofs.Tests.{never, test}
 use Rattle.d3d9_types.specs.declared.matrix.Row.{Row}
+use Rattle.ff_state.specs.State.{dirtyWord}
 use Rattle.ff_state.specs.Inputs.{sameInputs}
 use Rattle.sections.specs.Sections.{sections, hasSection}
 use Rattle.ff_state.specs.Valid.{Valid}
@@ -58,7 +59,7 @@ pub record Right (a : AbstractState) (t : Track) (σ : Section) (k : FfVsKey) : 
 
 -- of a state, the abstract one and what is kept of a mirror
 pub data Tracked (s : FfState) (a : AbstractState) (t : Track) (σ : Section) : Type 0 where
-  dirty : hasSection (s .«ff_vs_dirty») σ ≡ true → Tracked s a t σ
+  dirty : hasSection (dirtyWord s) σ ≡ true → Tracked s a t σ
   unread : t .needsMarking σ ≡ true → Tracked s a t σ
   hit : t .marked σ ≡ false → t .exempt σ ≡ true → Tracked s a t σ
   right : t .marked σ ≡ false → (k : FfVsKey) → Right a t σ k → Tracked s a t σ
@@ -75,7 +76,7 @@ module _ {s : FfState} {a : AbstractState} (v : Valid s) (g : Agrees s a) (op : 
 
   pub operation-tracked : Tracked s a t σ → Tracked (operate s op .state) (abstractStep a op) (trackMarked (marks a op) t) σ
   unfolding trackMarked abstractInputs
-  operation-tracked was = go (test (hasSection (operate s op .state .«ff_vs_dirty») σ))
+  operation-tracked was = go (test (hasSection (dirtyWord (operate s op .state)) σ))
     where
       pass : Unmarked s a op σ → Tracked s a t σ → Tracked (operate s op .state) (abstractStep a op) (trackMarked (marks a op) t) σ
       pass u (dirty e) = never (sym e ∙ u .clean)
@@ -91,7 +92,7 @@ module _ {s : FfState} {a : AbstractState} (v : Valid s) (g : Agrees s a) (op : 
             holds = subst (λ (x : List Row). Holds (t .mirror) (firstFloat σ) (floats x)) e (r .holds);
           })
 
-      go : (hasSection (operate s op .state .«ff_vs_dirty») σ ≡ true) ⊎ (hasSection (operate s op .state .«ff_vs_dirty») σ ≡ false)
+      go : (hasSection (dirtyWord (operate s op .state)) σ ≡ true) ⊎ (hasSection (dirtyWord (operate s op .state)) σ ≡ false)
           → Tracked (operate s op .state) (abstractStep a op) (trackMarked (marks a op) t) σ
       go (inl on) = dirty on
       go (inr off) = pass (left-clean v g op σ off) was
@@ -176,29 +177,29 @@ pub record Marked (t : Track) (k : FfVsKey) : Type 0 where
 
 module _ {s : FfState} {a : AbstractState} (v : Valid s) (g : Agrees s a) (t : Track) (k : FfVsKey) (ready : Ready s k) (long : length (t .mirror) ≡ 4460) (kept : Marked t k) (σ : Section) where
   abbrev after : List Float
-  after = written sections (s .«ff_vs_dirty») s k (t .mirror)
+  after = written sections (dirtyWord s) s k (t .mirror)
 
   shape-floats : (j : FfVsKey) → SameShape j k → abstractFloats σ a j ≡ abstractFloats σ a k
   unfolding abstractRows
   shape-floats j e = ap floats (shape-rows e (abstractInputs a) σ)
 
-  same-holds : (j : FfVsKey) → SameShape j k → hasSection (s .«ff_vs_dirty») σ ≡ false → Right a t σ j → Holds after (firstFloat σ) (abstractFloats σ a k)
+  same-holds : (j : FfVsKey) → SameShape j k → hasSection (dirtyWord s) σ ≡ false → Right a t σ j → Holds after (firstFloat σ) (abstractFloats σ a k)
   unfolding abstractInputs
   same-holds j e off r =
       let full : length (abstractFloats σ a j) ≡ 4 * inputRows σ k (abstractInputs a) =
       length-floats (abstractRows σ a j) ∙ ap (λ (n : ℕ). 4 * n) (r .whole ∙ shape-count e σ (abstractInputs a .textureMask)) in
       subst (λ (p : List Float). Holds after (firstFloat σ) p) (shape-floats j e)
-      (written-off ready (s .«ff_vs_dirty») sections σ off (t .mirror) (abstractFloats σ a j) long full
+      (written-off ready (dirtyWord s) sections σ off (t .mirror) (abstractFloats σ a j) long full
       (r .holds))
 
   -- a section is then right, unless it is exempt
   pub refresh-rights : Tracked s a t σ → (t .exempt σ ≡ true) ⊎ Holds after (firstFloat σ) (abstractFloats σ a k)
-  refresh-rights was = ⊎-elim (λ (five : OfFive σ). go five (test (hasSection (s .«ff_vs_dirty») σ)) was) (λ (e : σ ≡ Tt). inr (empty-holds after (firstFloat σ) σ a k e)) (of-five σ)
+  refresh-rights was = ⊎-elim (λ (five : OfFive σ). go five (test (hasSection (dirtyWord s) σ)) was) (λ (e : σ ≡ Tt). inr (empty-holds after (firstFloat σ) σ a k e)) (of-five σ)
     where
-      go : OfFive σ → (hasSection (s .«ff_vs_dirty») σ ≡ true) ⊎ (hasSection (s .«ff_vs_dirty») σ ≡ false) → Tracked s a t σ
+      go : OfFive σ → (hasSection (dirtyWord s) σ ≡ true) ⊎ (hasSection (dirtyWord s) σ ≡ false) → Tracked s a t σ
           → (t .exempt σ ≡ true) ⊎ Holds after (firstFloat σ) (abstractFloats σ a k)
       go five (inl on) was =
-          inr (subst (λ (p : List Float). Holds after (firstFloat σ) p) (rows-agree v g σ k) (written-on ready (s .«ff_vs_dirty») sections σ (every-in σ) on (t .mirror) long))
+          inr (subst (λ (p : List Float). Holds after (firstFloat σ) p) (rows-agree v g σ k) (written-on ready (dirtyWord s) sections σ (every-in σ) on (t .mirror) long))
       go five (inr off) (dirty e) = never (sym e ∙ off)
       go five (inr off) (unread e) = never (sym e ∙ kept .image σ five)
       go five (inr off) (hit m e) = inl e
