@@ -4,6 +4,7 @@ use crate::answers::Words;
 use crate::call::{Call, LIGHT, MATERIAL, Name};
 use crate::floats::{self, NAN, ONE, SIGN, SPECIAL, scaled};
 use crate::image::{MATRICES, SLOTS};
+use crate::key::Key;
 use crate::lists;
 use crate::matrices::{self, KINDS, Kind};
 use crate::random::Random;
@@ -69,6 +70,20 @@ pub fn enable(index: u32, enabled: u32) -> Call {
     Call {
         enabled,
         ..Call::numbered(Name::SetLightEnabledAt, index)
+    }
+}
+
+#[must_use]
+pub fn mark(bits: u32) -> Call {
+    Call::numbered(Name::MarkFfVsDirty, bits)
+}
+
+/// A refresh under the state's own mask.
+#[must_use]
+pub fn refresh(key: Key) -> Call {
+    Call {
+        own_mask: Some(0),
+        ..Call::keyed(Name::Refresh, key)
     }
 }
 

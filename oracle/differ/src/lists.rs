@@ -99,20 +99,43 @@ fn edge_lists(run: &mut Run, host: Host, lists: &[Vec<Call>], tally: &mut Tally)
     lists.run(run, host, tally)
 }
 
+/// Lists that are made from the seed, `each` calls long, `count` calls or more.
+fn seeded<F>(
+    run: &mut Run,
+    host: Host,
+    what: &'static str,
+    (count, each): (u64, usize),
+    list: F,
+    tally: &mut Tally,
+) -> Outcome
+where
+    F: Fn(u64, u64) -> Vec<Call> + Sync,
+{
+    let seed = run.seed;
+    let each = each as u64;
+    let lists = Lists {
+        what,
+        of: &format!("seed {seed}"),
+        count: count.div_ceil(each),
+        each,
+        list: |number| list(seed, number),
+    };
+    lists.run(run, host, tally)
+}
+
+/// One in how many of the edges is tried.
+const fn sparse(count: u64, step: usize) -> usize {
+    if count < WHOLE { step } else { 1 }
+}
+
 /// The edges, then at least `count` calls in random lists.
 pub fn calls(run: &mut Run, host: Host, count: u64) -> Outcome {
     let mut tally = Tally::default();
-    let seed = run.seed;
-    let random = Lists {
-        what: "calls",
-        of: &format!("seed {seed}"),
-        count: count.div_ceil(lists::LENGTH as u64),
-        each: lists::LENGTH as u64,
-        list: |number| lists::list(seed, number),
-    };
-    let step = if count < WHOLE { SPARSE_WORDS } else { 1 };
-    let outcome = edge_lists(run, host, &edges::edges(step), &mut tally)
-        .and_then(|()| random.run(run, host, &mut tally));
+    let edges = edges::edges(sparse(count, SPARSE_WORDS));
+    let outcome = edge_lists(run, host, &edges, &mut tally).and_then(|()| {
+        let size = (count, lists::LENGTH);
+        seeded(run, host, "calls", size, lists::list, &mut tally)
+    });
     tally.tell(run);
     tally.tell_notes(run);
     outcome
@@ -123,17 +146,11 @@ pub fn calls(run: &mut Run, host: Host, count: u64) -> Outcome {
 /// The edges, then at least `count` packing calls on states made from the seed.
 pub fn packs(run: &mut Run, host: Host, count: u64) -> Outcome {
     let mut tally = Tally::default();
-    let seed = run.seed;
-    let random = Lists {
-        what: "packs",
-        of: &format!("seed {seed}"),
-        count: count.div_ceil(packs::LENGTH as u64),
-        each: packs::LENGTH as u64,
-        list: |number| packs::list(seed, number),
-    };
-    let step = if count < WHOLE { SPARSE_PACKS } else { 1 };
-    let outcome = edge_lists(run, host, &edges::packs(step), &mut tally)
-        .and_then(|()| random.run(run, host, &mut tally));
+    let edges = edges::packs(sparse(count, SPARSE_PACKS));
+    let outcome = edge_lists(run, host, &edges, &mut tally).and_then(|()| {
+        let size = (count, packs::LENGTH);
+        seeded(run, host, "packs", size, packs::list, &mut tally)
+    });
     tally.tell(run);
     outcome.and_then(|()| tally.unmet(&packs::names()))
 }

@@ -5,22 +5,10 @@ use cases::floats::ONE;
 use cases::image;
 use cases::key::Key;
 use cases::section::{FIVE, MIRROR, ROW};
-use cases::states::{enable, set_light, set_material, set_transform};
+use cases::states::{enable, mark, refresh, set_light, set_material, set_transform};
 
 use crate::calls::light;
 use crate::running::Running;
-
-fn mark(bits: u32) -> Call {
-    Call::numbered(Name::MarkFfVsDirty, bits)
-}
-
-/// A refresh under the state's own mask.
-fn refresh(key: Key) -> Call {
-    Call {
-        own_mask: Some(0),
-        ..Call::keyed(Name::Refresh, key)
-    }
-}
 
 /// A state with lights of each kind, in slots and from index 8 on, and matrices and a material of unlike floats.
 fn scene() -> Vec<Call> {

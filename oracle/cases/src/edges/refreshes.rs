@@ -8,7 +8,7 @@ use crate::key::Key;
 use crate::keys::SET;
 use crate::lengths::wrong_lengths;
 use crate::section::{FIVE, MIRROR, ROW};
-use crate::states::{enable, set_light, set_material, set_transform};
+use crate::states::{enable, mark, refresh, set_light, set_material, set_transform};
 
 /// Lit with specular, and two matrices.
 const KEY: Key = Key::of([0, 1, 1, 0, 0, 0, 2]);
@@ -18,18 +18,6 @@ pub fn lists() -> Vec<Vec<Call>> {
     lists.extend(SETS.map(bits));
     lists.extend([true, false].map(refusals));
     lists
-}
-
-fn mark(bits: u32) -> Call {
-    Call::numbered(Name::MarkFfVsDirty, bits)
-}
-
-/// A refresh under the state's own mask.
-fn refresh(key: Key) -> Call {
-    Call {
-        own_mask: Some(0),
-        ..Call::keyed(Name::Refresh, key)
-    }
 }
 
 /// Bytes over the whole mirror, NaNs of every pattern among them; `of` makes them others.
