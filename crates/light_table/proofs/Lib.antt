@@ -3,3 +3,4 @@ pub mod LowerBound
 pub mod Insertion
 pub mod Sorted
 pub mod Compaction
+pub mod Turn

@@ -1,9 +1,8 @@
 // Lists of active lights: of a type that contributes, and enabled. Packing wants them by ascending index.
 ghost use mathlib.Core.Path.{_≡_};
-ghost use mathlib.Core.Bool.{cond};
 ghost use Prim.Native.Nat.{_≤_, _<_};
 ghost use lib.ListN.{take};
-ghost use Rattle.light_table.specs.Active.{activeSlots, isActive, activeOverflow, noLights, pushed, pushAll, kindMask, lowBits, fourBytes};
+ghost use Rattle.light_table.specs.Active.{activeSlots, isActive, activeOverflow, noLights, pushAll, kindMask, lowBits, fourBytes};
 use crate::entry::OverflowLight;
 use crate::kinds::light_type_contributes;
 use d3d9_types::D3DLIGHT9;
@@ -20,23 +19,6 @@ pub struct LightMasks {
     pub active: u8,
     pub directional: u8,
     pub spot: u8,
-}
-
-// One light more if it is active, up to the limit.
-pub fn push_if(list: ActiveLights, limit: usize, active: bool, light: D3DLIGHT9) -> ActiveLights
-    requires { ⌜ limit ≤ 8 ⌝ }
-    ensures { λ r. ⌜ r ≡ cond active (pushed limit list light) list ⌝ }
-{
-    if active {
-        let at = list.len;
-        if at < limit {
-            let mut out = list;
-            out.lights[at] = light;
-            out.len = at + 1;
-            return out;
-        }
-    }
-    list
 }
 
 pub fn is_active(e: OverflowLight) -> bool
@@ -59,7 +41,14 @@ pub fn push_slots(lights: [D3DLIGHT9; 8], mask: u8, limit: usize) -> ActiveLight
     };
     let mut i = 0usize;
     while i < 8 {
-        list = push_if(list, limit, has_bit(mask, i as u32), lights[i]);
+        let at = list.len;
+        if has_bit(mask, i as u32) {
+            if at < limit {
+                let light = lights[i];
+                list.lights[at] = light;
+                list.len = at + 1;
+            }
+        }
         i = i + 1;
     }
     list
@@ -78,8 +67,14 @@ pub fn push_overflow(
     let mut i = 0usize;
     while i < used {
         let e = entries[i];
-        let light = e.light;
-        list = push_if(list, limit, is_active(e), light);
+        let at = list.len;
+        if is_active(e) {
+            if at < limit {
+                let light = e.light;
+                list.lights[at] = light;
+                list.len = at + 1;
+            }
+        }
         i = i + 1;
     }
     list

@@ -3,9 +3,12 @@
 use Prim.Native.Nat.{_-_, _≤_, _<_}
 use native.Mathlib.Omega.{arith}
 use mathlib.Core.Path.{_≡_, refl, _∙_}
-use lib.ListN.{length, take, drop, drop-of-length-le}
+use mathlib.Core.Logic.{⊎-elim}
+use lib.ListN.{length, take, drop, getD, drop-of-length-le}
+use Rattle.light_table.specs.declared.entry.OverflowLight.{OverflowLight}
+use Rattle.light_table.proofs.Turn.{stored, full, off}
 use lib.Seq.{length-take-le, getD-take}
-use Rattle.light_table.proofs.Compaction.{overflow-again}
+use Rattle.light_table.proofs.Compaction.{noLight, overflow-again}
 use Rattle.light_table.specs.Active.{activeOverflow, pushAll}
 use Rattle.light_table.proofs.active.push_overflow.Statement.{statement}
 use Rattle.light_table.proofs.active.push_overflow.Tie as tie
@@ -28,8 +31,14 @@ array-copy-out-e c = omega arith
 is-active-requires : tie.Need-is-active-requires Inv-loop μ-loop
 is-active-requires c κs = tt
 
-push-if-requires : tie.Need-push-if-requires Inv-loop μ-loop
-push-if-requires c κs = c .before .before .before .before .before .pre .1
+mul-light : tie.Need-mul-light Inv-loop μ-loop
+mul-light c = omega arith
+
+element-set-from-light : tie.Need-element-set-from-light Inv-loop μ-loop
+element-set-from-light c = omega arith
+
+add-list : tie.Need-add-list Inv-loop μ-loop
+add-list c = omega arith
 
 add-i : tie.Need-add-i Inv-loop μ-loop
 add-i c = omega arith
@@ -37,21 +46,27 @@ add-i c = omega arith
 loop-less : tie.Need-loop-less Inv-loop μ-loop
 loop-less c = omega arith
 
-at-turn : (c : tie.After-push-if Inv-loop μ-loop) → c .before .before .before .before .before .loop .i < c .before .before .before .before .before .before .args .used
-at-turn c = omega arith
+-- what the language gives past the end of the entries
+abbrev noEntry : OverflowLight
+noEntry = record { index = 0; enabled = 0; light = noLight }
 
 loop-again : tie.Need-loop-again Inv-loop μ-loop
 loop-again c =
-    let at = c .before .before .before .before .before in
+    let at = c .before .before .before .before in
     let l = at .loop in
     let a = at .before .args in
     let len = l .inv .2 in
-    let turn = at-turn c in
-    let long : length (take (a .used) (a .t1)) ≡ a .used = length-take-le (a .used) (a .t1) (omega arith) in (
+    let turn : l .i < a .used = omega arith in
+    let long : length (take (a .used) (a .t1)) ≡ a .used = length-take-le (a .used) (a .t1) (omega arith) in
+    let t = c .before .is-active .result in
+    let e = getD (a .t1) (l .i) noEntry in (
       omega arith,
       l .inv .1,
       len,
-      overflow-again (a .limit) (l .i) (take (a .used) (a .t1)) _ _ (l .list) (c .push-if .result) (c .before .is-active .result) (omega arith) (getD-take (a .used) (a .t1) (l .i) _ turn) (c .before .is-active .ensures) (c .push-if .ensures)
+      overflow-again (a .limit) (l .i) (take (a .used) (a .t1)) noEntry e (l .list) (c .if1 .list) t (omega arith) (getD-take (a .used) (a .t1) (l .i) noEntry turn) (c .before .is-active .ensures)
+          (⊎-elim (λ w. stored (a .limit) (l .list) (c .if1 .list) (e .light) t (w .0 .taken) (w .1 .taken) (w .3))
+          (⊎-elim (λ w. full (a .limit) (l .list) (c .if1 .list) (e .light) t (w .0 .taken) (w .1 .left) (w .2)) (λ w. off (a .limit) (l .list) (c .if1 .list) (e .light) t (w .0 .left) (w .1)))
+          (c .if1 .came))
           ∙ l .inv .3,
     )
 
@@ -75,7 +90,9 @@ push-overflow-spec =
     mul-e
     array-copy-out-e
     is-active-requires
-    push-if-requires
+    mul-light
+    element-set-from-light
+    add-list
     add-i
     loop-less
     loop-again

@@ -3,8 +3,10 @@
 use Prim.Native.Nat.{_-_, _≤_}
 use native.Mathlib.Omega.{arith}
 use mathlib.Core.Path.{_≡_, _∙_}
-use lib.ListN.{length, drop, drop-of-length-le}
-use Rattle.light_table.proofs.Compaction.{slots-again}
+use mathlib.Core.Logic.{⊎-elim}
+use lib.ListN.{length, drop, getD, drop-of-length-le}
+use Rattle.light_table.proofs.Turn.{stored, full, off}
+use Rattle.light_table.proofs.Compaction.{noLight, slots-again}
 use borrow.Author.Needs.{needs}
 use Rattle.light_table.specs.Active.{slotsFrom, activeSlots, noLights, pushAll}
 use Rattle.light_table.proofs.active.push_slots.Statement.{statement}
@@ -29,14 +31,20 @@ cast-has-bit c = omega arith
 has-bit-requires : tie.Need-has-bit-requires Inv-loop μ-loop
 has-bit-requires c κs = omega arith
 
-mul-push-if : tie.Need-mul-push-if Inv-loop μ-loop
-mul-push-if c = omega arith
+mul-light : tie.Need-mul-light Inv-loop μ-loop
+mul-light c = omega arith
 
-array-copy-out-push-if : tie.Need-array-copy-out-push-if Inv-loop μ-loop
-array-copy-out-push-if c = omega arith
+array-copy-out-light : tie.Need-array-copy-out-light Inv-loop μ-loop
+array-copy-out-light c = omega arith
 
-push-if-requires : tie.Need-push-if-requires Inv-loop μ-loop
-push-if-requires c κs = search needs
+mul-light-2 : tie.Need-mul-light-2 Inv-loop μ-loop
+mul-light-2 c = omega arith
+
+element-set-from-light : tie.Need-element-set-from-light Inv-loop μ-loop
+element-set-from-light c = omega arith
+
+add-list : tie.Need-add-list Inv-loop μ-loop
+add-list c = omega arith
 
 add-i : tie.Need-add-i Inv-loop μ-loop
 add-i c = omega arith
@@ -46,12 +54,17 @@ loop-less c = omega arith
 
 loop-again : tie.Need-loop-again Inv-loop μ-loop
 loop-again c =
-    let l = c .before .before .before .before .loop in
-    let a = c .before .before .before .before .before .before .args in
+    let l = c .before .before .before .loop in
+    let a = c .before .before .before .before .before .args in
+    let t = c .before .has-bit .result in
+    let light = getD (a .t1) (l .i) noLight in
     let len = l .inv .1 in (
       omega arith,
       len,
-      slots-again (a .limit) (a .mask) (l .i) (a .t1) _ (l .list) (c .push-if .result) (c .before .before .has-bit .result) (omega arith) (c .before .before .has-bit .ensures) (c .push-if .ensures)
+      slots-again (a .limit) (a .mask) (l .i) (a .t1) noLight (l .list) (c .if1 .list) t (omega arith) (c .before .has-bit .ensures)
+          (⊎-elim (λ w. stored (a .limit) (l .list) (c .if1 .list) light t (w .0 .taken) (w .1 .taken) (w .3))
+          (⊎-elim (λ w. full (a .limit) (l .list) (c .if1 .list) light t (w .0 .taken) (w .1 .left) (w .2)) (λ w. off (a .limit) (l .list) (c .if1 .list) light t (w .0 .left) (w .1)))
+          (c .if1 .came))
           ∙ l .inv .2,
     )
 
@@ -73,9 +86,11 @@ push-slots-spec =
     loop-holds
     cast-has-bit
     has-bit-requires
-    mul-push-if
-    array-copy-out-push-if
-    push-if-requires
+    mul-light
+    array-copy-out-light
+    mul-light-2
+    element-set-from-light
+    add-list
     add-i
     loop-less
     loop-again
