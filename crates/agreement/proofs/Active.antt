@@ -6,7 +6,7 @@ use mathlib.Core.Path.{_≡_, refl, sym, ap, ap₂, _∙_}
 use mathlib.Core.Bool.{Bool, true, false, cond, _&&_}
 use mathlib.Core.List.{List, [], _∷_, _++_, map}
 use lib.Dec.{leb, leb·suc-suc}
-use lib.ListN.{length, getD, take}
+use lib.ListN.{length, getD}
 use Rattle.d3d9_types.specs.Light.{defaultLight}
 use Rattle.d3d9_types.specs.declared.light.D3DLIGHT9.{D3DLIGHT9}
 use Rattle.d3d9_model.specs.State.{AbstractState, AbstractLight}
@@ -14,8 +14,8 @@ use Rattle.d3d9_model.specs.Lights.{lights?, activeOf, abstractActive}
 use Rattle.words.specs.Bits.{hasBit}
 use Rattle.light_table.specs.Kinds.{contributes}
 use Rattle.ff_state.specs.Overflow.{used}
-use Rattle.light_table.specs.Active.{slotsFrom, activeOverflow, listed, masksOf}
-use Rattle.ff_state.specs.Active.{lightActiveMask, activeLights, resolveActiveLights, compactedLightMasks}
+use Rattle.light_table.specs.Active.{slotsFrom, activeOverflow}
+use Rattle.ff_state.specs.Active.{lightActiveMask, activeLights}
 use Rattle.ff_state.specs.Valid.{Valid, slotLight}
 use Rattle.ff_state.specs.declared.state.FfState.{FfState}
 use Rattle.light_table.specs.declared.entry.OverflowLight.{OverflowLight}
@@ -68,7 +68,7 @@ regroup true false false = refl
 regroup false c e = refl
 
 module _ {s : FfState} (v : Valid s) where
-  active-bits : (j : ℕ) → j < 8 → hasBit (lightActiveMask s) j ≡ (slotDefined s j && lights? (slotEntry s j))
+  pub active-bits : (j : ℕ) → j < 8 → hasBit (lightActiveMask s) j ≡ (slotDefined s j && lights? (slotEntry s j))
   unfolding lightActiveMask lights?
   active-bits j h =
       has-and (s .«light_set_mask») (s .«light_enabled») j
@@ -89,12 +89,3 @@ module _ {s : FfState} (v : Valid s) where
     pub active-agrees : activeLights s ≡ abstractActive a
     unfolding abstractActive
     active-agrees = state-active ∙ ap activeOf (g .lights)
-
-    -- a compacted list is the first so many of the abstract state's, and its masks are theirs
-    pub resolve-agrees : (limit : ℕ) → resolveActiveLights s limit ≡ listed limit (abstractActive a)
-    unfolding resolveActiveLights
-    resolve-agrees limit = ap (listed limit) active-agrees
-
-    pub masks-agree : compactedLightMasks s ≡ masksOf (take 8 (abstractActive a))
-    unfolding compactedLightMasks
-    masks-agree = ap (λ ls. masksOf (take 8 ls)) active-agrees

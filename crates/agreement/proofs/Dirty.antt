@@ -49,6 +49,7 @@ bits-agree d g =
       matrices = g .matrices;
       material = g .material;
       lights = g .lights;
+      highest = g .highest;
     }
 
 pub dirtied-agrees : {s : FfState} {a : AbstractState} (bits : ℕ) → Agrees s a → Agrees (dirtied s bits) a

@@ -14,6 +14,7 @@ use Rattle.light_table.specs.Entry.{zeroLight, zeroEntry}
 use Rattle.light_table.specs.Overflow.{usedCount, ascending}
 use Rattle.ff_state.specs.Valid.{Valid, SlotsValid, OverflowValid, FloatsValid}
 use Rattle.light_table.specs.declared.entry.OverflowLight.{OverflowLight}
+use Rattle.ff_state.proofs.Fresh.{fresh-palette}
 use Rattle.words.proofs.Words.{has-none}
 use Rattle.agreement.specs.Agrees.{Agrees, definedFrom, stateLights}
 
@@ -70,7 +71,7 @@ fresh-floats =
     record {
       view = identity-fits;
       projection = identity-fits;
-      palette = λ i h. rw (getD-replicate 256 i identity noMatrix h) identity-fits;
+      palette = λ i h. rw (fresh-palette i h) identity-fits;
       texture = λ i h. rw (getD-replicate 8 i identity noMatrix h) identity-fits;
       material = defaultMaterial-fits;
       lights = λ i h. rw (getD-replicate 8 i defaultLight defaultLight h) defaultLight-fits;
@@ -105,8 +106,9 @@ fresh-agrees =
             view = refl;
             projection = refl;
             texture = λ i h. getD-replicate 8 i identity noMatrix h;
-            palette = λ i h. getD-replicate 256 i identity noMatrix h;
+            palette = fresh-palette;
           };
       material = refl;
       lights = no-lights;
+      highest = refl;
     }

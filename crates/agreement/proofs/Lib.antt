@@ -3,6 +3,7 @@ pub mod Dirty
 pub mod Fresh
 pub mod Numbers
 pub mod Transforms
+pub mod TransformReads
 pub mod Material
 pub mod Indices
 pub mod Defined
@@ -16,3 +17,5 @@ pub mod LightReads
 pub mod Active
 pub mod Refused
 pub mod Kept
+pub mod Marks
+pub mod LightInputs

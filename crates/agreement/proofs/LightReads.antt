@@ -1,4 +1,4 @@
--- The reads of a light answer what the abstract state holds. (Of a transform: `transform-read` of `Transforms`; of the material: a field of `Agrees`.) Assumes nothing.
+-- The reads of a light answer what the abstract state holds. (Of a transform: `Transforms` and `TransformReads`; of the material: a field of `Agrees`.) Assumes nothing.
 use Prim.Native.Nat.{ℕ, _<_}
 use mathlib.Core.Path.{_≡_, refl, sym, ap, _∙_}
 use mathlib.Core.Bool.{Bool, true, false, cond, not, _&&_}
@@ -8,8 +8,9 @@ use borrow.Author.Tests.{ltb-true, ltb-false}
 use Rattle.lemmas.proofs.Branch.{branch}
 use Rattle.d3d9_model.specs.State.{AbstractState, AbstractLight}
 use Rattle.d3d9_model.specs.Lights.{lookup, isThere, isOn, abstractLight}
+use Rattle.d3d9_model.specs.Reads.{lightReadRefusal}
 use Rattle.words.specs.Bits.{hasBit}
-use Rattle.ff_state.specs.Lights.{found, entryAt, getLightAt, isLightEnabledAt, isLightDefinedAt}
+use Rattle.ff_state.specs.Lights.{found, entryAt, getLightAt, isLightEnabledAt, isLightDefinedAt, lightReadNumber}
 use Rattle.ff_state.specs.Valid.{Valid}
 use Rattle.ff_state.specs.declared.state.FfState.{FfState}
 use Rattle.agreement.specs.Agrees.{Agrees, slotDefined, slotEntry, overflowEntry, stateLights}
@@ -34,6 +35,11 @@ is-if : (t : Bool) → t ≡ cond t true false
 is-if true = refl
 is-if false = refl
 
+number-of : (l : Option AbstractLight) → lightReadNumber (lightRead l) ≡ cond (isThere l) 0 2
+unfolding lightReadNumber lightRead isThere
+number-of none = refl
+number-of (some l) = refl
+
 module _ {s : FfState} {a : AbstractState} (v : Valid s) (g : Agrees s a) (i : ℕ) where
   -- a read that is F of the slot's light where the slot is defined, and of the entry's where the index is stored
   read-is : {A : Type 0} (F : Option AbstractLight → A) (x y : A)
@@ -52,6 +58,10 @@ module _ {s : FfState} {a : AbstractState} (v : Valid s) (g : Agrees s a) (i : �
   pub light-read : getLightAt s i ≡ lightRead (abstractLight a i)
   unfolding getLightAt lightRead
   light-read = read-is lightRead _ _ (λ low. refl) refl
+
+  pub light-read-number : lightReadNumber (getLightAt s i) ≡ lightReadRefusal a i
+  unfolding lightReadRefusal
+  light-read-number = ap lightReadNumber light-read ∙ number-of (abstractLight a i)
 
   pub enabled-read : isLightEnabledAt s i ≡ isOn (abstractLight a i)
   unfolding isLightEnabledAt isOn

@@ -55,7 +55,7 @@ module _ {s : FfState} (v : Valid s) where
 
   -- ---- the room that is left
 
-  beyond-used : countBeyond (stateLights s) ≡ usedCount (s .«overflow_count»)
+  pub beyond-used : countBeyond (stateLights s) ≡ usedCount (s .«overflow_count»)
   unfolding stateLights
   beyond-used =
       beyond-below (definedFrom (slotDefined s) (slotEntry s) 0 8) (map overflowEntry (used s)) (defined-below (slotDefined s) (slotEntry s) (λ k. refl) 8 0 8 (omega arith))

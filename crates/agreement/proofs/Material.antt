@@ -44,4 +44,4 @@ module _ {s : FfState} (m : D3DMATERIAL9) where
   unfolding setMaterial stateLights abstractStep abstractRefusal abstractChange
   material-agrees g =
       dirtied-agrees (bitOf Sections.Material)
-      (record { matrices = g .matrices; material = refl; lights = g .lights })
+      (record { matrices = g .matrices; material = refl; lights = g .lights; highest = g .highest })

@@ -1,19 +1,19 @@
 -- Transforms: setting, multiplying and reading by the abstract state's numbers. Assumes nothing.
-use Prim.Native.Nat.{ℕ, _+_, _≤_, _<_}
+use Prim.Native.Nat.{ℕ, _+_, _-_, _≤_, _<_, max}
 use native.Mathlib.Nat.{max-le}
 use native.Mathlib.Omega.{arith}
-use mathlib.Core.Path.{_≡_, refl, sym, ap, _∙_}
+use mathlib.Core.Path.{_≡_, refl, sym, ap, ap₂, _∙_}
 use mathlib.Core.Bool.{true, false, cond}
 use mathlib.Core.List.{List}
 use lib.Dec.{eqb}
 use lib.ListN.{length, getD, set, length-set}
-use borrow.Author.Tests.{eqb-true, eqb-false, eq-eqb, ne-eqb}
+use borrow.Author.Tests.{eqb-true, eqb-false, eq-eqb, ne-eqb, le-leb, lt-leb}
 use Rattle.lemmas.proofs.Branch.{branch}
 use Rattle.d3d9_types.specs.Matrix.{matrixFits}
 use Rattle.d3d9_types.specs.declared.matrix.D3DMATRIX.{D3DMATRIX}
 use Rattle.matrix.specs.Product.{matMul}
 use Rattle.matrix.proofs.Fits.{matMul-fits}
-use Rattle.d3d9_model.specs.State.{AbstractState, withMatrix}
+use Rattle.d3d9_model.specs.State.{AbstractState, raised, withMatrix}
 use Rattle.d3d9_model.specs.Operations.{known, abstractRefusal, abstractChange, abstractStep}
 use Rattle.d3d9_model.specs.Operations as Operations
 use Rattle.ff_state.specs.State.{noMatrix, withView, withProjection, withWorldPalette, withWorldPaletteHighWater, withTextureTransforms}
@@ -95,6 +95,17 @@ module _ {s : FfState} {a : AbstractState} (v : Valid s) (g : Agrees s a) (m : D
       (λ (t : eqb i j ≡ true). sym (hit (b + j) n (omega (arith, eqb-true i j t))))
       (λ (t : eqb i j ≡ false). old j k ∙ sym (missed (b + j) n (λ q. eqb-false i j t (omega arith))))
 
+  -- the highest palette index: a number below the palette leaves it, and 256 + i raises it to i
+  unraised : (n : ℕ) → n < 256 → s .«world_palette_high_water» ≡ raised (a .highestIndex) n
+  unfolding raised
+  unraised n h = rw (lt-leb 256 n h) (g .highest)
+
+  raised-to : (i n : ℕ) → n ≡ 256 + i → i < 256 → max (s .«world_palette_high_water») i ≡ raised (a .highestIndex) n
+  unfolding raised
+  raised-to i n e h =
+      let j : i ≡ n - 256 = omega arith in
+      rw (le-leb 256 n (omega arith), le-leb n 511 (omega arith)) (ap₂ max (g .highest) j)
+
   placed-agrees : (p : Place) (n : ℕ) → n ≡ number p → InRange p → Agrees (placed s p m) (withMatrix a n m)
   unfolding placed stateLights
   placed-agrees View n e h =
@@ -108,6 +119,7 @@ module _ {s : FfState} {a : AbstractState} (v : Valid s) (g : Agrees s a) (m : D
             };
         material = g .material;
         lights = g .lights;
+        highest = unraised n (omega arith);
       }
   placed-agrees Projection n e h =
       record {
@@ -120,6 +132,7 @@ module _ {s : FfState} {a : AbstractState} (v : Valid s) (g : Agrees s a) (m : D
             };
         material = g .material;
         lights = g .lights;
+        highest = unraised n (omega arith);
       }
   placed-agrees (Texture i) n e h =
       record {
@@ -132,6 +145,7 @@ module _ {s : FfState} {a : AbstractState} (v : Valid s) (g : Agrees s a) (m : D
             };
         material = g .material;
         lights = g .lights;
+        highest = unraised n (omega arith);
       }
   placed-agrees (Palette i) n e h =
       record {
@@ -144,6 +158,7 @@ module _ {s : FfState} {a : AbstractState} (v : Valid s) (g : Agrees s a) (m : D
             };
         material = g .material;
         lights = g .lights;
+        highest = raised-to i n e h;
       }
 
 -- ---- the calls: a change of the matrix that a number names

@@ -44,3 +44,4 @@ pub record Agrees (s : FfState) (a : AbstractState) : Type 0 where
   pub matrices : MatricesAgree (s .view) (s .projection) (s .«texture_transforms») (s .«world_palette») (a .matrix)
   pub material : s .material ≡ a .material
   pub lights : stateLights s ≡ a .lights
+  pub highest : s .«world_palette_high_water» ≡ a .highestIndex

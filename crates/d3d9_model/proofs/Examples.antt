@@ -1,7 +1,7 @@
 -- Worked examples, computed, that hold the definitions to document 01. Assumes nothing.
 use Prim.Native.Nat.{ℕ, zero, suc}
 use mathlib.Core.Path.{_≡_, refl}
-use mathlib.Core.Bool.{true, false}
+use mathlib.Core.Bool.{Bool, true, false, cond}
 use mathlib.Core.List.{List, [], _∷_, map}
 use Rattle.d3d9_types.specs.Light.{defaultLight}
 use Rattle.d3d9_types.specs.Matrix.{identity}
@@ -9,9 +9,14 @@ use Rattle.d3d9_types.specs.declared.matrix.D3DMATRIX.{D3DMATRIX}
 use Rattle.d3d9_types.specs.declared.material.D3DMATERIAL9.{D3DMATERIAL9}
 use Rattle.d3d9_types.specs.declared.light.D3DLIGHT9.{D3DLIGHT9}
 use Rattle.matrix.specs.Product.{matMul}
-use Rattle.d3d9_model.specs.State.{AbstractState, AbstractLight, freshAbstract, withLights}
+use Rattle.sections.specs.Sections.{sections}
+use Rattle.words.specs.Bits.{hasBit}
+use Rattle.d3d9_model.specs.State.{AbstractState, AbstractLight, freshAbstract, raised, withLights}
 use Rattle.d3d9_model.specs.Lights.{lightAt, lookup, isThere, isOn, changedAt, lightSet, lightEnabled, countBeyond, lights?, activeOf, abstractLight, abstractActive}
 use Rattle.d3d9_model.specs.Operations.{Operation, setTransform, multiplyTransform, setMaterial, setLight, enableLight, mark, known, full, abstractRefusal, abstractChange, abstractStep}
+use Rattle.d3d9_model.specs.Marks.{transformMarks, among, marksSection}
+use Rattle.d3d9_model.specs.Active.{compacted, bitsNumber, compactedMask, activeKind, rawMask, wordOf, abstractLightInputs}
+use Rattle.d3d9_model.specs.Reads.{transformReadRefusal, lightReadRefusal, abstractPaletteUsed}
 
 -- operations one after another, from the fresh state
 abbrev after : List Operation → AbstractState → AbstractState
@@ -127,3 +132,76 @@ reads : (map (λ i. isThere (abstractLight five i)) (0 ∷ 1 ∷ 2 ∷ 9 ∷ [])
     × (map (λ i. isOn (abstractLight five i)) (0 ∷ 1 ∷ 2 ∷ 9 ∷ []) ≡ true ∷ false ∷ false ∷ true ∷ [])
 unfolding abstractLight lookup isThere isOn
 reads = (refl, refl)
+
+-- "Read refuses 2 if undefined", and of a transform 1
+read-numbers : (map (lightReadRefusal five) (0 ∷ 1 ∷ 2 ∷ 9 ∷ []) ≡ 0 ∷ 0 ∷ 2 ∷ 0 ∷ []) × (map transformReadRefusal edges ≡ refusals)
+unfolding lightReadRefusal abstractLight lookup isThere transformReadRefusal known
+read-numbers = (refl, refl)
+
+-- ---- the sections that an operation marks: WV, PROJ, MATERIAL, LIGHTS, PALETTE, TT, a 1 for each that is marked
+
+abbrev marksOf : Operation → List ℕ
+marksOf op = map (λ σ. cond (marksSection op σ) 1 0) sections
+
+abbrev numbered : List ℕ
+numbered = 2 ∷ 3 ∷ 16 ∷ 23 ∷ 256 ∷ 257 ∷ 511 ∷ []
+
+abbrev marked : List (List ℕ)
+marked =
+    (1 ∷ 0 ∷ 0 ∷ 1 ∷ 1 ∷ 0 ∷ [])
+    ∷ (0 ∷ 1 ∷ 0 ∷ 0 ∷ 0 ∷ 0 ∷ [])
+    ∷ (0 ∷ 0 ∷ 0 ∷ 0 ∷ 0 ∷ 1 ∷ [])
+    ∷ (0 ∷ 0 ∷ 0 ∷ 0 ∷ 0 ∷ 1 ∷ [])
+    ∷ (1 ∷ 0 ∷ 0 ∷ 0 ∷ 1 ∷ 0 ∷ [])
+    ∷ (0 ∷ 0 ∷ 0 ∷ 0 ∷ 1 ∷ 0 ∷ [])
+    ∷ (0 ∷ 0 ∷ 0 ∷ 0 ∷ 1 ∷ 0 ∷ [])
+    ∷ []
+
+transform-marks : (m : D3DMATRIX) → (map (λ n. marksOf (setTransform n m)) numbered ≡ marked) × (map (λ n. marksOf (multiplyTransform n m)) numbered ≡ marked)
+unfolding marksSection transformMarks among
+transform-marks m = (refl, refl)
+
+other-marks : (m : D3DMATERIAL9) (l : D3DLIGHT9)
+    → (marksOf (setMaterial m) ≡ 0 ∷ 0 ∷ 1 ∷ 0 ∷ 0 ∷ 0 ∷ [])
+    × (marksOf (setLight 9 l) ≡ 0 ∷ 0 ∷ 0 ∷ 1 ∷ 0 ∷ 0 ∷ [])
+    × (marksOf (enableLight 3 true) ≡ 0 ∷ 0 ∷ 0 ∷ 1 ∷ 0 ∷ 0 ∷ [])
+    × (marksOf (mark 38) ≡ 0 ∷ 1 ∷ 1 ∷ 0 ∷ 0 ∷ 1 ∷ [])
+unfolding marksSection among hasBit
+other-marks m l = (refl, refl, refl, refl)
+
+-- ---- "the highest palette index ever set or multiplied, plus 1, and 1 when fresh"
+
+palette-used : (m : D3DMATRIX)
+    → (abstractPaletteUsed freshAbstract ≡ 1)
+    × (abstractPaletteUsed (after (setTransform 256 m ∷ setTransform 23 m ∷ setTransform 512 m ∷ []) freshAbstract) ≡ 1)
+    × (abstractPaletteUsed (after (setTransform 263 m ∷ setTransform 258 m ∷ []) freshAbstract) ≡ 8)
+    × (abstractPaletteUsed (after (setTransform 263 m ∷ multiplyTransform 511 m ∷ setMaterial (freshAbstract .material) ∷ enableLight 0 true ∷ []) freshAbstract) ≡ 256)
+unfolding abstractPaletteUsed freshAbstract raised abstractStep abstractRefusal abstractChange known full
+palette-used m = (refl, refl, refl, refl)
+
+-- ---- "Compaction"
+
+abbrev nine : AbstractState
+nine =
+    withLights freshAbstract
+    (lightAt 1 true (typed 1) ∷ lightAt 2 true (typed 2) ∷ lightAt 3 false (typed 3) ∷ lightAt 4 true (typed 1) ∷ lightAt 5 true (typed 3) ∷ lightAt 6 true (typed 4) ∷ lightAt 7 true (typed 1)
+    ∷ lightAt 9 true (typed 2) ∷ lightAt 10 true (typed 1) ∷ lightAt 11 true (typed 3) ∷ lightAt 12 true (typed 2) ∷ [])
+
+eight-at-most : compacted nine ≡ typed 1 ∷ typed 2 ∷ typed 1 ∷ typed 3 ∷ typed 1 ∷ typed 2 ∷ typed 1 ∷ typed 3 ∷ []
+unfolding compacted abstractActive activeOf lights?
+eight-at-most = refl
+
+nine-inputs : abstractLightInputs nine ≡ 0x012288FF
+unfolding abstractLightInputs wordOf compactedMask bitsNumber compacted abstractActive activeOf lights? countBeyond
+nine-inputs = refl
+
+-- P7, with a directional and a spot light beside them that are off
+abbrev two : AbstractState
+two = withLights freshAbstract (lightAt 0 true (typed 3) ∷ lightAt 3 true (typed 2) ∷ lightAt 4 false (typed 3) ∷ lightAt 5 false (typed 2) ∷ [])
+
+abbrev withPoint : Bool → AbstractState
+withPoint on = withLights freshAbstract (lightAt 0 true (typed 3) ∷ lightAt 3 true (typed 2) ∷ lightAt 4 false (typed 3) ∷ lightAt 5 false (typed 2) ∷ lightAt 9 on (typed 1) ∷ [])
+
+light-inputs : (abstractLightInputs two ≡ 0x00080109) × (abstractLightInputs (withPoint true) ≡ 0x01020107) × (abstractLightInputs (withPoint false) ≡ 0x01020103)
+unfolding abstractLightInputs wordOf rawMask activeKind abstractLight lookup compactedMask bitsNumber compacted abstractActive activeOf lights? countBeyond
+light-inputs = (refl, refl, refl)

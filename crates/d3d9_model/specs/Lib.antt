@@ -1,3 +1,6 @@
 pub mod State
 pub mod Lights
 pub mod Operations
+pub mod Marks
+pub mod Active
+pub mod Reads

@@ -58,6 +58,6 @@ unfoldable pub isOn : Option AbstractLight → Bool
 isOn none = false
 isOn (some l) = l .enabled
 
--- "active slots 0 to 7 ascending, then active overflow lights by ascending index": the active lights by ascending index; whoever packs them takes eight at most
+-- "active slots 0 to 7 ascending, then active overflow lights by ascending index": the active lights by ascending index
 unfoldable pub abstractActive : AbstractState → List D3DLIGHT9
 abstractActive a = activeOf (a .lights)

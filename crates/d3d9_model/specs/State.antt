@@ -1,8 +1,8 @@
 -- The abstract state: document 01's "plain book" ('The list and the count of demand 3'). "It holds matrices by state number, material, and lights by index, each with an enable."
-use Prim.Native.Nat.{ℕ}
-use mathlib.Core.Bool.{Bool, cond}
+use Prim.Native.Nat.{ℕ, _-_, max}
+use mathlib.Core.Bool.{Bool, cond, _&&_}
 use mathlib.Core.List.{List, []}
-use lib.Dec.{eqb}
+use lib.Dec.{leb, eqb}
 use Rattle.d3d9_types.specs.Matrix.{identity}
 use Rattle.d3d9_types.specs.Material.{defaultMaterial}
 use Rattle.d3d9_types.specs.declared.matrix.D3DMATRIX.{D3DMATRIX}
@@ -20,17 +20,24 @@ pub record AbstractState : Type 0 where
   pub material : D3DMATERIAL9
   -- by ascending index, each index once
   pub lights : List AbstractLight
+  -- "the highest palette index ever set or multiplied"
+  pub highestIndex : ℕ
 
--- "It begins with 000's fresh matrices, the default material and no light."
+-- "It begins with 000's fresh matrices, the default material and no light."; `world_palette_used` is "1 when fresh"
 unfoldable pub freshAbstract : AbstractState
-freshAbstract = record { matrix = λ n. identity; material = defaultMaterial; lights = [] }
+freshAbstract = record { matrix = λ n. identity; material = defaultMaterial; lights = []; highestIndex = 0 }
+
+-- "256 to 511 palette": the highest index once the matrix of a state number is stored
+unfoldable pub raised : ℕ → ℕ → ℕ
+raised highest n = cond (leb 256 n && leb n 511) (max highest (n - 256)) highest
 
 -- one update for each field; of the matrices, one
 abbrev pub withMatrix : AbstractState → ℕ → D3DMATRIX → AbstractState
-withMatrix a n m = record { matrix = λ k. cond (eqb k n) m (a .matrix k); material = a .material; lights = a .lights }
+withMatrix a n m =
+    record { matrix = λ k. cond (eqb k n) m (a .matrix k); material = a .material; lights = a .lights; highestIndex = raised (a .highestIndex) n }
 
 abbrev pub withMaterial : AbstractState → D3DMATERIAL9 → AbstractState
-withMaterial a m = record { matrix = a .matrix; material = m; lights = a .lights }
+withMaterial a m = record { matrix = a .matrix; material = m; lights = a .lights; highestIndex = a .highestIndex }
 
 abbrev pub withLights : AbstractState → List AbstractLight → AbstractState
-withLights a ls = record { matrix = a .matrix; material = a .material; lights = ls }
+withLights a ls = record { matrix = a .matrix; material = a .material; lights = ls; highestIndex = a .highestIndex }

@@ -2,4 +2,5 @@ pub mod Places
 pub mod Found
 pub mod Room
 pub mod Frame
+pub mod Fresh
 mod Examples

@@ -1,13 +1,13 @@
--- Document 01, 'Cases': P7, P8 and P9, as tests. "States start fresh".
+-- Document 01, 'Cases': P7 and P8, as tests. "States start fresh".
 use Prim.Native.Nat.{ℕ}
 use mathlib.Core.Bool.{Bool, true, false, _&&_}
 use lib.Dec.{eqb}
 use Rattle.d3d9_types.specs.Light.{defaultLight}
 use Rattle.d3d9_types.specs.Matrix.{identity}
 use Rattle.d3d9_types.specs.declared.light.D3DLIGHT9.{D3DLIGHT9}
-use Rattle.ff_state.specs.State.{freshState, withOverflowCount}
+use Rattle.ff_state.specs.State.{freshState}
 use Rattle.ff_state.specs.Transforms.{setTransform, transformNumber}
-use Rattle.ff_state.specs.Lights.{setLightAt, setLightEnabledAt, lightNumber}
+use Rattle.ff_state.specs.Lights.{setLightAt, setLightEnabledAt}
 use Rattle.ff_state.specs.Active.{vsSourceLightInputs}
 use Rattle.ff_state.specs.declared.state.FfState.{FfState}
 
@@ -49,9 +49,3 @@ setNumber n = transformNumber (setTransform freshState n identity .answer)
 -- "P8 state 15 refused 1, 16 taken; 511 taken, 512 refused."
 unfoldable pub p8 : Bool
 p8 = eqb (setNumber 15) 1 && eqb (setNumber 16) 0 && eqb (setNumber 511) 0 && eqb (setNumber 512) 1
-
--- "P9 entry 56 taken, 57 refused 3": a light that is not stored, where 55 and where 56 are in use.
-unfoldable pub p9 : FfState → ℕ → Bool
-p9 s i =
-    eqb (lightNumber (setLightAt (withOverflowCount s 55) i (lightOf 1) .answer)) 0
-    && eqb (lightNumber (setLightAt (withOverflowCount s 56) i (lightOf 1) .answer)) 3

@@ -94,4 +94,5 @@ module _ (bytes : List ℕ) where
             };
         material = refl;
         lights = lights-are (accepted bytes h .count);
+        highest = refl;
       }

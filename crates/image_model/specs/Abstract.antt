@@ -47,8 +47,9 @@ imageLights bytes =
     definedAmong (slotDefined bytes) (slotLight bytes) (0 ∷ 1 ∷ 2 ∷ 3 ∷ 4 ∷ 5 ∷ 6 ∷ 7 ∷ [])
     ++ listAt entryLight 112 (countOf bytes) bytes 17_932
 
+-- "highest palette index u16 17,928": "an image that is read brings its own index"
 unfoldable pub imageAbstract : List ℕ → AbstractState
-imageAbstract bytes = record { matrix = imageMatrix bytes; material = materialAt bytes 17_024; lights = imageLights bytes }
+imageAbstract bytes = record { matrix = imageMatrix bytes; material = materialAt bytes 17_024; lights = imageLights bytes; highestIndex = numberAt 2 bytes 17_928 }
 
 -- reading an image in: document 01's number, and the book afterwards. "An image read in replaces all"; a refused call leaves the book alone.
 unfoldable pub readRefusal : List ℕ → ℕ

@@ -26,8 +26,9 @@ use Rattle.sections.specs.Key.{SameShape}
 use Rattle.sections.specs.declared.key.FfVsKey.{FfVsKey}
 use Rattle.d3d9_model.specs.State.{AbstractState}
 use Rattle.d3d9_model.specs.Operations.{setTransform, multiplyTransform, setMaterial, setLight, enableLight, mark, abstractRefusal}
+use Rattle.d3d9_model.specs.Marks.{marksSection}
 use Rattle.refresh_calls.specs.Written.{mirrorFloats}
-use Rattle.trace.specs.Calls.{theMirror, another, slice, HostCall, operates, refreshes, Call, own, readIn, refresh, overwrite, host, hostOn, operationOf, operationBits}
+use Rattle.trace.specs.Calls.{theMirror, another, slice, HostCall, operates, refreshes, Call, own, readIn, refresh, overwrite, host, hostOn, operationOf}
 use Rattle.trace.specs.Calls as Calls
 use Rattle.trace.specs.World.{World, Track, trackMarked, freshTrack, start, standing, operated, operatedIf, marks}
 use Rattle.trace.specs.Step.{Refresher, refreshRefusal, accepts, hostKey, acceptedKey, hostStep, step}
@@ -182,7 +183,7 @@ again-marked t j k last same ends = record { shape = λ i q n. absurd (n (subst 
 
 -- and whatever needed marking, none after the five are marked, by value or by the host
 pub marks-five : (a : AbstractState) (σ : Section) → OfFive σ → marks a (mark 31) σ ≡ true
-unfolding marks abstractRefusal operationBits hasBit
+unfolding marks abstractRefusal marksSection hasBit
 marks-five a Wv f = refl
 marks-five a Proj f = refl
 marks-five a Material f = refl

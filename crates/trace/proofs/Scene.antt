@@ -26,9 +26,10 @@ use Rattle.sections.specs.declared.key.FfVsKey.{FfVsKey}
 use Rattle.packing.specs.Inputs.{packedRows, maskAccepted}
 use Rattle.d3d9_model.specs.State.{AbstractState}
 use Rattle.d3d9_model.specs.Operations.{Operation, setTransform, mark, abstractRefusal}
+use Rattle.d3d9_model.specs.Marks.{marksSection}
 use Rattle.ff_state.specs.Operate as Operate
 use Rattle.packing_laws.specs.Abstract.{abstractInputs, abstractRows}
-use Rattle.trace.specs.Calls.{theMirror, slice, Call, own, refresh, overwrite, operationBits}
+use Rattle.trace.specs.Calls.{theMirror, slice, Call, own, refresh, overwrite}
 use Rattle.trace.specs.Count.{rowsUnder}
 use Rattle.trace.specs.World.{World, Track, freshTrack, trackMarked, isRow, hits, trackOverwritten, start, tracking, marks, wrongRows}
 use Rattle.trace.specs.Step.{refreshRefusal, acceptedKey, ours, step, run}
@@ -167,7 +168,7 @@ not-hit Tt e = refl
 
 -- bit 2 is PROJ's
 marked-again : (a : AbstractState) (σ : Section) → (isRow 4 σ (keyRows σ) && not (marks a (mark 2) σ)) ≡ false
-unfolding isRow marks abstractRefusal operationBits hasBit
+unfolding isRow marks abstractRefusal marksSection hasBit
 marked-again a Wv = refl
 marked-again a Proj = refl
 marked-again a Material = refl

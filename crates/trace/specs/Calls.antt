@@ -9,11 +9,6 @@ use lib.ListN.{length}
 use Rattle.codec.specs.Matrix.{matrixAt}
 use Rattle.codec.specs.Material.{materialAt}
 use Rattle.codec.specs.Light.{lightAt}
-use Rattle.sections.specs.Sections.{bitOf}
-use Rattle.ff_state.specs.Transforms.{slotOf, placeBits}
-use Rattle.sections.specs.declared.sections.Section.the-variants.{Material, Lights}
-use Rattle.ff_state.specs.declared.transforms.Slot.{Slot}
-use Rattle.ff_state.specs.declared.transforms.Slot.the-variants.{At, Unknown}
 use Rattle.sections.specs.declared.key.FfVsKey.{FfVsKey}
 use Rattle.d3d9_model.specs.Operations.{OperationOn, Operation, setTransform, multiplyTransform, setMaterial, setLight, enableLight, mark}
 use Rattle.calls.specs.Answer.{Answer}
@@ -74,16 +69,3 @@ operationOf (setMaterial m) = ofLength 68 m (setMaterial (materialAt m 0))
 operationOf (setLight i l) = ofLength 104 l (setLight i (lightAt l 0))
 operationOf (enableLight i on) = some (enableLight i (not (eqb on 0)))
 operationOf (mark bits) = some (mark bits)
-
--- the sections that an accepted operation marks, as bits
-unfoldable pub slotBits : Slot → ℕ
-slotBits (At p) = placeBits p
-slotBits Unknown = 0
-
-unfoldable pub operationBits : Operation → ℕ
-operationBits (setTransform n m) = slotBits (slotOf n)
-operationBits (multiplyTransform n m) = slotBits (slotOf n)
-operationBits (setMaterial m) = bitOf Material
-operationBits (setLight i l) = bitOf Lights
-operationBits (enableLight i on) = bitOf Lights
-operationBits (mark bits) = bits

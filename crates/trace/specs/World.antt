@@ -6,7 +6,6 @@ use mathlib.Core.Option.{Option, none, some}
 use lib.Dec.{eqb, ltb, leb}
 use lib.Ieee.{Float}
 use lib.ListN.{set}
-use Rattle.sections.specs.Sections.{hasSection}
 use Rattle.ff_state.specs.State.{freshState}
 use Rattle.sections.specs.declared.sections.Section.{Section}
 use Rattle.ff_state.specs.declared.state.FfState.{FfState}
@@ -16,8 +15,8 @@ use Rattle.sections.specs.Sections.{firstRow}
 use Rattle.sections.specs.declared.key.FfVsKey.{FfVsKey}
 use Rattle.d3d9_model.specs.State.{AbstractState, freshAbstract}
 use Rattle.d3d9_model.specs.Operations.{Operation, abstractRefusal, abstractStep}
+use Rattle.d3d9_model.specs.Marks.{marksSection}
 use Rattle.image_model.specs.Abstract.{imageAbstract}
-use Rattle.trace.specs.Calls.{operationBits}
 use Rattle.trace.specs.Count.{rowsUnder, differing}
 
 -- "For the host's calls the state stands in an image, just written from it or left by the host's last call": beside the image stands the state by value that it stands for
@@ -143,7 +142,7 @@ tracking t w = record { stored = w .stored; abstract = w .abstract; track = t }
 
 -- whether an operation marks a section: an accepted one, by the rule of the abstract state
 unfoldable pub marks : AbstractState → Operation → Section → Bool
-marks a op σ = eqb (abstractRefusal a op) 0 && hasSection (operationBits op) σ
+marks a op σ = eqb (abstractRefusal a op) 0 && marksSection op σ
 
 unfoldable pub operated : Operation → World → World
 operated op w = record { stored = w .stored; abstract = abstractStep (w .abstract) op; track = trackMarked (marks (w .abstract) op) (w .track) }
