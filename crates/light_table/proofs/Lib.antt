@@ -4,3 +4,4 @@ pub mod Insertion
 pub mod Sorted
 pub mod Compaction
 pub mod Turn
+mod Examples
