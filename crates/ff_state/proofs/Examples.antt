@@ -22,8 +22,14 @@ use Rattle.ff_state.specs.Material as Materials
 use Rattle.ff_state.specs.Operate.{operate}
 use Rattle.ff_state.specs.Slots.{setSlot, defineSlot, enableSlot}
 use Rattle.ff_state.specs.Lights.{found, replaceEntry, insertEntry, changeEntry, setLightAt, flag, setLightEnabledAt}
+use Rattle.ff_state.specs.Overflow.{used}
 use Rattle.ff_state.specs.Active.{lightActiveMask, activeLights, compactedLightMasks, vsSourceLightInputs}
 use Rattle.ff_state.specs.Cases.{lightOf, lit, p7, p8}
+
+-- operations one after another
+abbrev after : List Operation → FfState → FfState
+after [] s = s
+after (o ∷ os) s = after os (operate s o .state)
 
 p8-holds : p8 ≡ true
 unfolding p8 Transforms.setTransform changeAt slotOf transformNumber
@@ -38,14 +44,15 @@ unlit-slots : let two = lit (lit freshState 0 3) 3 2 in vsSourceLightInputs (set
 unfolding vsSourceLightInputs compactedLightMasks activeLights lightActiveMask setLightEnabledAt setLightAt enableSlot defineSlot setSlot dirtied freshState fourBytes contributes hasBit withBit defaultLight
 unlit-slots = refl
 
+-- overflow lights stand by ascending index, in whatever order the calls came
+ascending-entries : (l : D3DLIGHT9) → map (λ e. e .index) (used (after (setLight 9 l ∷ enableLight 12 true ∷ setLight 8 l ∷ setLight 9 l ∷ []) freshState)) ≡ 8 ∷ 9 ∷ 12 ∷ []
+unfolding operate setLightAt setLightEnabledAt changeEntry insertEntry replaceEntry found dirtied freshState insertedAt findEntry lowerBound usedCount
+ascending-entries l = refl
+
 -- ---- the dirty word
 
 abbrev clean : FfState
 clean = takeFfVsDirty freshState .state
-
-abbrev after : List Operation → FfState → FfState
-after [] s = s
-after (o ∷ os) s = after os (operate s o .state)
 
 abbrev wordAfter : Operation → ℕ
 wordAfter op = dirtyWord (operate clean op .state)
