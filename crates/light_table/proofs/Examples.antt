@@ -1,6 +1,5 @@
 -- Worked examples, computed, that hold the table of entries to document 01: by ascending index, and types 1, 2 and 3 alone light something.
 -- Assumes nothing.
-use Prim.Native.Nat.{ℕ}
 use mathlib.Core.Path.{_≡_, refl}
 use mathlib.Core.Bool.{true, false}
 use mathlib.Core.List.{List, [], _∷_, _++_, map}
