@@ -2,7 +2,7 @@
 -- Each call is `dirtied` over a state with the same dirty word, and the sections of a place are those of its state number. Assumes nothing.
 use Prim.Native.Nat.{ℕ, zero, suc, _+_, _<_}
 use native.Mathlib.Omega.{arith}
-use mathlib.Core.Path.{_≡_, refl, sym, ap, _∙_}
+use mathlib.Core.Path.{_≡_, refl, ap, _∙_}
 use mathlib.Core.Bool.{Bool, true, false, _&&_, _||_}
 use mathlib.Core.List.{List, [], _∷_, map}
 use lib.Bits.{bitOr}
@@ -166,19 +166,20 @@ or-false : (b : Bool) → b ≡ (b || false)
 or-false true = refl
 or-false false = refl
 
+-- of every state, by the number that the operation answers: a refused one marks nothing
+pub dirty-by-number : (s : FfState) (op : Operation) (σ : Section)
+    → hasSection (dirtyWord (operate s op .state)) σ ≡ (hasSection (dirtyWord s) σ || (eqb (operate s op .number) 0 && marksSection op σ))
+dirty-by-number s op σ = go (eqb (operate s op .number) 0) refl
+  where
+    go : (t : Bool) → eqb (operate s op .number) 0 ≡ t
+        → hasSection (dirtyWord (operate s op .state)) σ ≡ (hasSection (dirtyWord s) σ || (eqb (operate s op .number) 0 && marksSection op σ))
+    go true q = rw q (accepted-marks s op (eqb-true (operate s op .number) 0 q) σ)
+    go false q = rw (q, refused-same s op (eqb-false (operate s op .number) 0 q)) (or-false (hasSection (dirtyWord s) σ))
+
+-- and by the abstract rule of refusals
 pub dirty-after : {s : FfState} {a : AbstractState} → Valid s → Agrees s a → (op : Operation) (σ : Section)
     → hasSection (dirtyWord (operate s op .state)) σ ≡ (hasSection (dirtyWord s) σ || (eqb (abstractRefusal a op) 0 && marksSection op σ))
-dirty-after {s} {a} v g op σ = go (eqb (abstractRefusal a op) 0) refl
-  where
-    alike : operate s op .number ≡ abstractRefusal a op
-    alike = refused-alike v g op
-
-    go : (t : Bool) → eqb (abstractRefusal a op) 0 ≡ t
-        → hasSection (dirtyWord (operate s op .state)) σ ≡ (hasSection (dirtyWord s) σ || (eqb (abstractRefusal a op) 0 && marksSection op σ))
-    go true q = rw q (accepted-marks s op (alike ∙ eqb-true (abstractRefusal a op) 0 q) σ)
-    go false q =
-        let e = refused-same s op (λ (z : operate s op .number ≡ 0). eqb-false (abstractRefusal a op) 0 q (sym alike ∙ z)) in
-        rw (q, e) (or-false (hasSection (dirtyWord s) σ))
+dirty-after {s} v g op σ = dirty-by-number s op σ ∙ ap (λ (n : ℕ). hasSection (dirtyWord s) σ || (eqb n 0 && marksSection op σ)) (refused-alike v g op)
 
 -- ---- the fresh word, and taking
 
