@@ -1,7 +1,7 @@
 -- The number of each call on states, from what the host's code tests: the slot, the room, the read.
 -- Assumes nothing.
 use Prim.Native.Nat.{ℕ}
-use mathlib.Core.Path.{_≡_, _∙_}
+use mathlib.Core.Path.{_≡_, refl, _∙_}
 use mathlib.Core.Bool.{Bool, true, false}
 use Rattle.d3d9_types.specs.declared.light.D3DLIGHT9.{D3DLIGHT9}
 use Rattle.d3d9_types.specs.declared.matrix.D3DMATRIX.{D3DMATRIX}
@@ -13,31 +13,25 @@ use Rattle.ff_state.specs.declared.transforms.Slot.{Slot}
 use Rattle.ff_state.specs.declared.transforms.Slot.the-variants.{At, Unknown}
 use Rattle.ff_state.proofs.Room.{set-answer, enable-answer}
 
-module _ (s : FfState) (m : Place → D3DMATRIX) where
-  unknown-change : (q : Slot) → q ≡ Unknown → transformNumber (changeAt s q m .answer) ≡ 1
-  unfolding changeAt transformNumber
-  unknown-change q e = rw e
+module _ (s : FfState) where
+  changes-alike : (f g : Place → D3DMATRIX) (q : Slot) → transformNumber (changeAt s q f .answer) ≡ transformNumber (changeAt s q g .answer)
+  unfolding changeAt
+  changes-alike f g (At p) = refl
+  changes-alike f g Unknown = refl
 
-  known-change : (q : Slot) {p : Place} → q ≡ At p → transformNumber (changeAt s q m .answer) ≡ 0
-  unfolding changeAt transformNumber
-  known-change q e = rw e
+  module _ (n : ℕ) (m : D3DMATRIX) where
+    pub set-unknown : slotOf n ≡ Unknown → transformNumber (setTransform s n m .answer) ≡ 1
+    unfolding setTransform changeAt transformNumber
+    set-unknown e = rw e
 
-module _ (s : FfState) (n : ℕ) (m : D3DMATRIX) where
-  pub set-unknown : slotOf n ≡ Unknown → transformNumber (setTransform s n m .answer) ≡ 1
-  unfolding setTransform
-  set-unknown e = unknown-change s _ (slotOf n) e
+    pub set-known : {p : Place} → slotOf n ≡ At p → transformNumber (setTransform s n m .answer) ≡ 0
+    unfolding setTransform changeAt transformNumber
+    set-known e = rw e
 
-  pub set-known : {p : Place} → slotOf n ≡ At p → transformNumber (setTransform s n m .answer) ≡ 0
-  unfolding setTransform
-  set-known e = known-change s _ (slotOf n) e
-
-  pub multiply-unknown : slotOf n ≡ Unknown → transformNumber (multiplyTransform s n m .answer) ≡ 1
-  unfolding multiplyTransform
-  multiply-unknown e = unknown-change s _ (slotOf n) e
-
-  pub multiply-known : {p : Place} → slotOf n ≡ At p → transformNumber (multiplyTransform s n m .answer) ≡ 0
-  unfolding multiplyTransform
-  multiply-known e = known-change s _ (slotOf n) e
+    -- a multiply is refused as a set is
+    pub multiply-as-set : transformNumber (setTransform s n m .answer) ≡ transformNumber (multiplyTransform s n m .answer)
+    unfolding setTransform multiplyTransform
+    multiply-as-set = changes-alike _ _ (slotOf n)
 
 module _ (s : FfState) (i : ℕ) where
   pub set-full : (l : D3DLIGHT9) → hasRoom s i ≡ false → lightNumber (setLightAt s i l .answer) ≡ 3

@@ -6,7 +6,8 @@ use mathlib.Core.List.{List}
 use Rattle.ff_state.specs.declared.state.FfState.{FfState}
 use Rattle.image_reasons.specs.Reasons.{refused}
 use Rattle.image.specs.Format.{imageBytes}
-use Rattle.image.specs.Read.{stateOf}
+use Rattle.image.specs.Read.{stateOf, readNumber}
+use Rattle.image.specs.declared.read.ReadAnswer.the-variants.{NotAnImage}
 use Rattle.calls.specs.Answer.{Answer, answered, orNext}
 
 -- what a call on states gives: document 01's number, and the state afterwards
@@ -17,9 +18,9 @@ pub record Called : Type 0 where
 abbrev pub called : ℕ → FfState → Called
 called n s = record { number = n; state = s }
 
--- the code: 9 for what is not an image, then the call's own number, then the number of a lent slice's length
+-- the code: reading's 9 for what is not an image, then the call's own number, then the number of a lent slice's length
 unfoldable pub callCode : (FfState → ℕ) → ℕ → List ℕ → ℕ
-callCode own len image = cond (refused image) 9 (orNext (own (stateOf image)) len)
+callCode own len image = cond (refused image) (readNumber NotAnImage) (orNext (own (stateOf image)) len)
 
 -- a call that changes the state, and the image left behind
 unfoldable pub changing : (FfState → Called) → ℕ → List ℕ → Answer (List ℕ)

@@ -2,13 +2,16 @@
 use Prim.Native.Nat.{ℕ}
 use mathlib.Core.List.{List}
 use Rattle.ff_state.specs.State.{freshState}
-use Rattle.image_reasons.specs.Length.{imageLength}
-use Rattle.image.specs.Format.{imageBytes}
-use Rattle.calls.specs.Answer.{Answer, answered, lengthNumber}
+use Rattle.image.specs.Write.{Outcome, writeImage, writeNumber}
+use Rattle.calls.specs.Answer.{Answer, answer}
 use Rattle.calls.specs.Call.{callCode, none}
 
+-- a writing's number, and the destination afterwards
+abbrev pub writeAnswer : Outcome → Answer (List ℕ)
+writeAnswer o = answer (writeNumber (o .answer)) (o .bytes)
+
 unfoldable pub ffImageFresh : List ℕ → Answer (List ℕ)
-ffImageFresh image = answered (lengthNumber imageLength image) (imageBytes freshState) image
+ffImageFresh image = writeAnswer (writeImage freshState image)
 
 abbrev pub ffImageCheck : List ℕ → ℕ
 ffImageCheck = callCode none 0

@@ -6,8 +6,8 @@ ghost use Rattle.image.specs.Format.{imageBytes};
 ghost use Rattle.calls.specs.Answer.{answer};
 ghost use Rattle.calls.specs.Images.{ffImageFresh, ffImageCheck};
 use ff_state::FfState;
+use image::WriteAnswer;
 use image::write_image;
-use image_reasons::IMAGE_LENGTH;
 use image_reasons::image_refused;
 
 // The state over an image that was read.
@@ -21,11 +21,11 @@ pub fn put_state(image: &mut [u8], s: FfState)
 pub fn image_fresh(image: &mut [u8]) -> u32
     ensures { λ r. ⌜ answer r (now (image .exit)) ≡ ffImageFresh (now (image .entry)) ⌝ }
 {
-    if image.len() != IMAGE_LENGTH {
-        return 4;
+    let answer = write_image(FfState::new(), image);
+    match answer {
+        WriteAnswer::Written => 0,
+        WriteAnswer::WrongLength => 4,
     }
-    put_state(image, FfState::new());
-    0
 }
 
 pub fn image_check(image: &[u8]) -> u32

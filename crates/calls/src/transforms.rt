@@ -13,8 +13,9 @@ use image_reasons::image_refused;
 
 const MATRIX_BYTES: usize = 64;
 
-pub fn set_transform(image: &mut [u8], state: u32, matrix: &[u8]) -> u32
-    ensures { λ r. ⌜ answer r (now (image .exit)) ≡ ffSetTransform (now (image .entry)) state (now (matrix .entry)) ⌝ }
+// The number of a set, which is a multiply's too.
+fn change_code(image: &[u8], state: u32, matrix: &[u8]) -> u32
+    ensures { λ r. ⌜ r ≡ ffSetTransform (now (image .entry)) state (now (matrix .entry)) .code ⌝ }
 {
     if image_refused(image) {
         return 9;
@@ -25,6 +26,16 @@ pub fn set_transform(image: &mut [u8], state: u32, matrix: &[u8]) -> u32
     };
     if matrix.len() != MATRIX_BYTES {
         return 4;
+    }
+    0
+}
+
+pub fn set_transform(image: &mut [u8], state: u32, matrix: &[u8]) -> u32
+    ensures { λ r. ⌜ answer r (now (image .exit)) ≡ ffSetTransform (now (image .entry)) state (now (matrix .entry)) ⌝ }
+{
+    let code = change_code(image, state, matrix);
+    if code != 0 {
+        return code;
     }
     let s = state_of(image);
     let c = s.set_transform(state, matrix_at(matrix, 0));
@@ -35,15 +46,9 @@ pub fn set_transform(image: &mut [u8], state: u32, matrix: &[u8]) -> u32
 pub fn multiply_transform(image: &mut [u8], state: u32, matrix: &[u8]) -> u32
     ensures { λ r. ⌜ answer r (now (image .exit)) ≡ ffMultiplyTransform (now (image .entry)) state (now (matrix .entry)) ⌝ }
 {
-    if image_refused(image) {
-        return 9;
-    }
-    let slot = slot_of(state);
-    let Slot::At(_) = slot else {
-        return 1;
-    };
-    if matrix.len() != MATRIX_BYTES {
-        return 4;
+    let code = change_code(image, state, matrix);
+    if code != 0 {
+        return code;
     }
     let s = state_of(image);
     let c = s.multiply_transform(state, matrix_at(matrix, 0));

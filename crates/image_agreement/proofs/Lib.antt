@@ -1,4 +1,3 @@
 pub mod ImageAgrees
 pub mod ReadIn
-pub mod OnImage
 pub mod Reachable

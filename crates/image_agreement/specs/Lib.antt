@@ -1,2 +1,1 @@
-pub mod OnImage
 pub mod Reachable

@@ -1,30 +1,40 @@
 -- The returns of a fill: 4 for another length, and past it what the section's packing answers.
 -- Assumes nothing.
-use Prim.Native.Nat.{ℕ, zero, suc, _*_, _<_, _≤_}
+use Prim.Native.Nat.{ℕ, _*_, _<_, _≤_}
 use native.Mathlib.Omega.{arith}
 use mathlib.Core.Path.{_≡_, refl, sym, ap, _∙_}
-use mathlib.Core.Bool.{false}
+use mathlib.Core.Bool.{Bool, true, false, cond}
 use mathlib.Core.List.{List}
+use lib.Dec.{eqb}
 use lib.Ieee.{Float}
 use lib.ListN.{length, take}
 use lib.Seq.{length-take-le}
+use borrow.Author.Tests.{eq-eqb, ne-eqb}
 use Rattle.sections.specs.declared.sections.Section.{Section}
 use Rattle.ff_state.specs.declared.state.FfState.{FfState}
 use Rattle.image.specs.Read.{stateOf}
 use Rattle.image_reasons.specs.Reasons.{refused}
-use Rattle.calls.specs.Answer.{answered, orNext}
+use Rattle.calls.specs.Answer.{answered}
 use Rattle.calls.specs.Call.{callCode, reading}
-use Rattle.calls.proofs.Answers.{length-right, length-wrong}
+use Rattle.calls.proofs.Answers.{next-zero}
 use Rattle.sections.specs.Counts.{sectionRows}
 use Rattle.sections.proofs.Tiles.{fits-mirror}
 use Rattle.sections.specs.declared.key.FfVsKey.{FfVsKey}
 use Rattle.pack_calls.specs.Fill.{maskNumber, fillBytes, fillNumber, ffFillSection}
-use Rattle.packing.specs.Pack.{stateCount}
+use Rattle.packing.specs.Inputs.{maskAccepted, inputsOf}
+use Rattle.packing.specs.Pack.{stateCount, packNumber}
+use Rattle.packing.specs.declared.answer.PackAnswer.the-variants.{Packed, WrongLength, WrongMask}
 
-or-none : (n : ℕ) → orNext n 0 ≡ n
-unfolding orNext
-or-none zero = refl
-or-none (suc n) = refl
+-- document 01: "4, the destination is not 4 times the section's rows; then, for LIGHTS, 5"; a float is 4 bytes
+pub fill-refuses : (σ : Section) (k : FfVsKey) (dst : List ℕ) (s : FfState)
+    → fillNumber σ k dst s ≡ cond (eqb (length dst) (16 * stateCount σ s k)) (cond (maskAccepted σ k (inputsOf s)) 0 5) 4
+unfolding fillNumber packNumber
+fill-refuses σ k dst s = go (eqb (length dst) (16 * stateCount σ s k)) (maskAccepted σ k (inputsOf s))
+  where
+    go : (long mask : Bool) → packNumber (cond long (cond mask Packed WrongMask) WrongLength) ≡ cond long (cond mask 0 5) 4
+    go true true = refl
+    go true false = refl
+    go false mask = refl
 
 module _ (σ : Section) (k : FfVsKey) {rows : ℕ} (is : rows ≡ sectionRows σ k 0) where
   four-rows : 4 * (4 * rows) ≡ 16 * sectionRows σ k 0
@@ -42,14 +52,13 @@ module _ (σ : Section) (k : FfVsKey) {rows : ℕ} (is : rows ≡ sectionRows σ
 
   module _ (dst : List ℕ) where
     pub fill-wrong : (s : FfState) → (length dst ≡ 4 * (4 * rows) → ⊥) → fillNumber σ k dst s ≡ 4
-    unfolding fillNumber orNext
-    fill-wrong s n = rw (length-wrong (16 * stateCount σ s k) dst (λ e. n (e ∙ sym four-rows)))
+    fill-wrong s n = fill-refuses σ k dst s ∙ rw (ne-eqb (length dst) (16 * stateCount σ s k) (λ e. n (e ∙ sym four-rows)))
 
     pub fill-right : (s : FfState) → length dst ≡ 4 * (4 * rows) → fillNumber σ k dst s ≡ maskNumber σ k s
-    unfolding fillNumber orNext
-    fill-right s e = rw (length-right (16 * stateCount σ s k) dst (e ∙ four-rows))
+    unfolding fillNumber
+    fill-right s e = rw (eq-eqb (length dst) (16 * stateCount σ s k) (e ∙ four-rows))
 
     pub fill-done : (image : List ℕ) → refused image ≡ false → length dst ≡ 4 * (4 * rows)
         → answered (maskNumber σ k (stateOf image)) (fillBytes σ k (stateOf image)) dst ≡ ffFillSection σ image k dst
     unfolding reading callCode
-    fill-done image r e = rw (r, fill-right (stateOf image) e, or-none (maskNumber σ k (stateOf image)))
+    fill-done image r e = rw (r, fill-right (stateOf image) e, next-zero (maskNumber σ k (stateOf image)))

@@ -1,6 +1,6 @@
 -- What packing answers into floats of the section's length: the number of the mask, and where it is 0 the section's rows.
 -- Assumes nothing.
-use Prim.Native.Nat.{ℕ, _*_}
+use Prim.Native.Nat.{_*_}
 use native.Mathlib.Omega.{arith}
 use mathlib.Core.Path.{_≡_, refl, ap, _∙_}
 use mathlib.Core.Bool.{Bool, true, false, cond}
@@ -21,12 +21,12 @@ use Rattle.pack_calls.specs.Fill.{maskNumber}
 abbrev byMask : Bool → List Float → List Float → Outcome
 byMask b rows fl = cond b (outcome Packed rows) (outcome WrongMask fl)
 
-number-by : (b : Bool) (rows fl : List Float) → packNumber (byMask b rows fl .answer) ≡ cond b 0 5
-unfolding packNumber
-number-by true rows fl = refl
-number-by false rows fl = refl
+answer-by : (b : Bool) (rows fl : List Float) → byMask b rows fl .answer ≡ cond b Packed WrongMask
+answer-by true rows fl = refl
+answer-by false rows fl = refl
 
-rows-by : (b : Bool) (rows fl : List Float) → _≡_ {A = ℕ} (cond b 0 5) 0 → byMask b rows fl .floats ≡ rows
+rows-by : (b : Bool) (rows fl : List Float) → packNumber (cond b Packed WrongMask) ≡ 0 → byMask b rows fl .floats ≡ rows
+unfolding packNumber
 rows-by true rows fl e = refl
 rows-by false rows fl e = absurd (omega (arith, e))
 
@@ -39,7 +39,7 @@ module _ (σ : Section) (s : FfState) (k : FfVsKey) (fl : List Float) (long : le
     pub number-is : packNumber a ≡ maskNumber σ k s
     number-is =
         ap (λ (o : Outcome). packNumber (o .answer)) (e ∙ past)
-        ∙ number-by (maskAccepted σ k (inputsOf s)) (stateRows σ s k) fl
+        ∙ ap packNumber (answer-by (maskAccepted σ k (inputsOf s)) (stateRows σ s k) fl)
 
     pub rows-are : maskNumber σ k s ≡ 0 → xs ≡ stateRows σ s k
     rows-are h =

@@ -28,7 +28,8 @@ use Rattle.d3d9_model.specs.State.{AbstractState}
 use Rattle.d3d9_model.specs.Operations.{setTransform, multiplyTransform, setMaterial, setLight, enableLight, mark, abstractRefusal}
 use Rattle.d3d9_model.specs.Marks.{marksSection}
 use Rattle.refresh_calls.specs.Written.{mirrorFloats}
-use Rattle.trace.specs.Calls.{theMirror, another, slice, HostCall, operates, refreshes, Call, own, readIn, refresh, overwrite, host, hostOn, operationOf}
+use Rattle.trace.specs.Calls.{theMirror, another, slice, HostCall, operates, refreshes, Call, own, readIn, refresh, overwrite, host, hostOn}
+use Rattle.call_laws.specs.HostOperations.{isWhole, said, operationOf}
 use Rattle.trace.specs.Calls as Calls
 use Rattle.trace.specs.World.{World, Track, trackMarked, freshTrack, start, standing, operated, operatedIf, marks}
 use Rattle.trace.specs.Step.{Refresher, refreshRefusal, accepts, hostKey, acceptedKey, hostStep, step}
@@ -205,7 +206,7 @@ module _ (R : Refresher) (w : World) (k : FfVsKey) where
   own-marked = five-marked
 
   pub host-marked : Marked (step R (host (operates (mark 31))) w .track) k
-  unfolding step hostStep standing operationOf operatedIf operated
+  unfolding step hostStep standing operationOf isWhole said operatedIf operated
   host-marked = five-marked
 
 -- ---- which refreshes are accepted: the claim speaks of each that document 01's rule accepts, by value, by the host, and on another image

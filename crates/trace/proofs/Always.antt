@@ -25,10 +25,9 @@ use Rattle.image.specs.Read.{stateOf, readImage}
 use Rattle.image_laws.specs.Exactly.{IsAccepted}
 use Rattle.sections.specs.declared.key.FfVsKey.{FfVsKey}
 use Rattle.d3d9_model.specs.State.{AbstractState}
+use Rattle.d3d9_model.specs.Operations.{Operation}
 use Rattle.ff_state.specs.Operate.{operate}
 use Rattle.agreement.proofs.Dirty.{taken-valid}
-use Rattle.agreement.proofs.Kept.{valid-kept}
-use Rattle.agreement.proofs.Refused.{refused-same}
 use Rattle.refresh.specs.Answer.{refreshAnswer, refreshNumber}
 use Rattle.refresh.specs.Mirror.{Outcome, refreshMirror}
 use Rattle.refresh.specs.Written.{written}
@@ -38,13 +37,14 @@ use Rattle.refresh.proofs.Laws as Laws
 use Rattle.refresh.proofs.Packed.{Ready}
 use Rattle.refresh_calls.specs.Written.{mirrorFloats}
 use Rattle.refresh_calls.specs.Mirror.{HostRefreshed, ffRefreshNumber, ffRefresh}
-use Rattle.trace.specs.Calls.{HostOperation, Lent, theMirror, another, slice, HostCall, operates, refreshes, Call, own, readIn, refresh, overwrite, host, hostOn, hostAnswer, operationOf}
+use Rattle.call_laws.specs.HostOperations.{HostOperation, operationOf, ItemFits}
+use Rattle.call_laws.proofs.HostOperations.{operation-fits, host-accepted-kept, host-unsaid, host-state}
+use Rattle.trace.specs.Calls.{Lent, theMirror, another, slice, HostCall, operates, refreshes, Call, own, readIn, refresh, overwrite, host, hostOn}
 use Rattle.trace.specs.Calls as Calls
 use Rattle.trace.specs.World.{World, Track, Stored, value, inImage, asState, asImage, held, trackReadIn, start, standing, operatedIf, imageRead, refreshedIf, wrongRows}
 use Rattle.trace.specs.Step.{refreshRefusal, accepts, hostKey, acceptedKey, ours, leaving, hostStep, unread, handed, step, run}
-use Rattle.trace.specs.Claim.{KeyFits, ItemFits, HostTyped, ofMirror, hostMirror, lentMirror, Keeps, Admits, Admissible, AlwaysRight}
-use Rattle.trace.proofs.HostCalls.{HostLeaves, done, other, host-leaves, host-refresh-old, host-refresh-new}
-use Rattle.trace.proofs.HostCalls as HostCalls
+use Rattle.trace.specs.Claim.{KeyFits, HostTyped, ofMirror, hostMirror, lentMirror, Keeps, Admits, Admissible, AlwaysRight}
+use Rattle.trace.proofs.HostCalls.{host-refresh-old, host-refresh-new}
 use Rattle.trace.proofs.Invariant.{Stands, Invariant, writing-stands, by-value, image-accepted, by-host, begins, after-image, after-operated, after-standing, after-overwrite, after-left, after-refresh, refresh-right}
 use Rattle.refresh_calls.proofs.MirrorBytes.{written-floats}
 use Rattle.trace.proofs.Refusals.{number-accepted, answer-number, host-refresh-number, passes}
@@ -145,14 +145,15 @@ module _ {w : World} (a : IsAccepted (asImage (w .stored))) (inv : Invariant w (
 
   operation-good : (h : HostOperation) → ItemFits h → Good (hostStep ours (operates h) w)
   unfolding hostStep operatedIf
-  operation-good h fit = go (host-leaves h image (a .taken) fit)
+  operation-good h fit = go (operationOf h) refl
     where
-      go : HostLeaves image (operationOf h) (hostAnswer h image .out) → Good (hostStep ours (operates h) w)
-      go (done op e f z is) =
-          rw e (operate (stateOf image) op .state, after-operated inv op f _ (written-stands _ (operate (stateOf image) op .state) is (valid-kept (inv .valid) op f)))
-      go (HostCalls.HostLeaves.refused op e f n is) =
-          rw e (operate (stateOf image) op .state, after-operated inv op f _ (subst (λ (t : FfState). Stands (inImage old (hostAnswer h image .out)) t) (sym (refused-same (stateOf image) op n)) (stays _ is)))
-      go (other e is) = rw e (stateOf image, after-standing inv _ (stays _ is))
+      go : (o : Option Operation) → operationOf h ≡ o → Good (hostStep ours (operates h) w)
+      go none e = rw e (stateOf image, after-standing inv _ (stays _ (host-unsaid h image a e)))
+      go (some op) e =
+          rw e (
+            operate (stateOf image) op .state,
+            after-operated inv op (operation-fits h op e fit) _ (host-accepted-kept h image a fit, host-state h image a op e fit),
+          )
 
   host-refresh-leaves : (k : FfVsKey) → KeyFits k → (lent : List ℕ)
       → Leaves (stateOf image) k (accepts (w .abstract) k (eqb (length lent) 17_840)) (mirrorFloats lent) (mirrorFloats (ffRefresh image k lent 0 .out .mirror)) (inImage old (ffRefresh image k lent 0 .out .image))

@@ -12,12 +12,14 @@ use Rattle.d3d9_model.specs.Operations.{Operation, abstractRefusal}
 use Rattle.ff_state.specs.Operate.{operate}
 use Rattle.agreement.proofs.Kept.{refused-alike}
 use Rattle.refresh.specs.Answer.{refreshNumber}
-use Rattle.trace.specs.Calls.{HostOperation, Lent, slice, Call, hostAnswer, operationOf}
+use Rattle.call_laws.specs.HostOperations.{HostOperation, hostAnswer, operationOf}
+use Rattle.call_laws.proofs.HostOperations.{host-number}
+use Rattle.trace.specs.Calls.{Lent, slice, Call}
 use Rattle.trace.specs.World.{World, asState, asImage, start}
 use Rattle.trace.specs.Step.{refreshRefusal, ours, run}
 use Rattle.trace.specs.Claim.{Admissible}
 use Rattle.trace.proofs.Always.{Good, before-last}
-use Rattle.trace.proofs.HostCalls.{host-number, host-refresh-code}
+use Rattle.trace.proofs.HostCalls.{host-refresh-code}
 use Rattle.trace.proofs.Invariant.{by-value, image-accepted, by-host}
 use Rattle.trace.proofs.Refusals.{refresh-number, host-refresh-number}
 
@@ -34,7 +36,7 @@ module _ (m : List Float) (long : length m ≡ 4460) (calls : List Call) (c : Ca
   pub host-operation-answers : (h : HostOperation) (op : Operation) → operationOf h ≡ some op → hostAnswer h (asImage (w .stored)) .code ≡ abstractRefusal (w .abstract) op
   host-operation-answers h op e =
       let inv = by-host (good .1) in
-      host-number h (asImage (w .stored)) (image-accepted (good .1) .taken) op e ∙ refused-alike (inv .valid) (inv .agrees) op
+      host-number h (asImage (w .stored)) (image-accepted (good .1)) op e ∙ refused-alike (inv .valid) (inv .agrees) op
 
   pub refresh-answers : (k : FfVsKey) (l : Lent Float)
       → refreshNumber (ours .byValue (asState (w .stored)) k (slice l) .result .answer) ≡ refreshRefusal (w .abstract) k (eqb (length (slice l)) 4460)

@@ -16,7 +16,8 @@ use Rattle.packing.specs.Inputs.{packedRows}
 use Rattle.sections.specs.declared.key.FfVsKey.{FfVsKey}
 use Rattle.d3d9_model.specs.Operations.{mark}
 use Rattle.packing_laws.specs.Abstract.{abstractRows}
-use Rattle.trace.specs.Calls.{Call, own, readIn, refresh, overwrite, host, hostOn, operates, operationOf}
+use Rattle.trace.specs.Calls.{Call, own, readIn, refresh, overwrite, host, hostOn, operates}
+use Rattle.call_laws.specs.HostOperations.{isWhole, said, operationOf}
 use Rattle.trace.specs.Calls as Calls
 use Rattle.trace.specs.Count.{countBelow, differing}
 use Rattle.trace.specs.World.{World, start, wrongRows}
@@ -102,7 +103,7 @@ abbrev pub MarksFive : Call → Type 0
 MarksFive c = (c ≡ own (mark 31)) ⊎ (c ≡ host (operates (mark 31)))
 
 marking-clears : (c : Call) → MarksFive c → (w : World) (σ : Section) → OfFive σ → step ours c w .track .exempt σ ≡ false
-unfolding operationOf
+unfolding operationOf isWhole said
 marking-clears c (inl e) w σ f = rw e (marking-ends ours σ (mark 31) w (marks-five (w .abstract) σ f))
 marking-clears c (inr e) w σ f = rw e (host-marking-ends ours σ (mark 31) (mark 31) w refl (marks-five (w .abstract) σ f))
 

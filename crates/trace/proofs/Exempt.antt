@@ -16,7 +16,8 @@ use Rattle.image_reasons.specs.Reasons.{refused}
 use Rattle.sections.specs.Sections.{firstRow}
 use Rattle.sections.specs.declared.key.FfVsKey.{FfVsKey}
 use Rattle.d3d9_model.specs.Operations.{Operation}
-use Rattle.trace.specs.Calls.{Lent, theMirror, another, HostOperation, HostCall, operates, refreshes, Call, own, readIn, refresh, overwrite, host, hostOn, operationOf}
+use Rattle.trace.specs.Calls.{Lent, theMirror, another, HostCall, operates, refreshes, Call, own, readIn, refresh, overwrite, host, hostOn}
+use Rattle.call_laws.specs.HostOperations.{HostOperation, operationOf}
 use Rattle.trace.specs.Calls as Calls
 use Rattle.trace.specs.World.{World, Track, withMirror, trackMarked, trackReadIn, trackRefreshed, isRow, hits, trackOverwritten, freshTrack, start, standing, tracking, marks, operated, operatedIf, imageRead, refreshedIf}
 use Rattle.trace.specs.Step.{Refresher, leaving, hostStep, unread, handed, step}

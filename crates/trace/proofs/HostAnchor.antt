@@ -37,7 +37,7 @@ use Rattle.refresh_calls.proofs.refresh.Kinds as call-refresh-kinds
 use Rattle.refresh_calls.proofs.refresh.Reads as call-refresh-reads
 use Rattle.host.proofs.mirror.ff_refresh.Kinds as ff-refresh-kinds
 use Rattle.host.proofs.mirror.ff_refresh.Reads as ff-refresh-reads
-use Rattle.trace.specs.Calls.{hostAnswer}
+use Rattle.call_laws.specs.HostOperations.{hostAnswer}
 use Rattle.d3d9_model.specs.Operations.{setTransform, multiplyTransform, setMaterial, setLight, enableLight, mark}
 use Rattle.trace.specs.Step.{ours}
 

@@ -1,25 +1,10 @@
 -- The calls of a list. Document 01, 'The list and the count of demand 3'.
 use Prim.Native.Nat.{ℕ}
-use mathlib.Core.Bool.{cond, not}
 use mathlib.Core.List.{List}
-use mathlib.Core.Option.{Option, none, some}
-use lib.Dec.{eqb}
 use lib.Ieee.{Float}
-use lib.ListN.{length}
-use Rattle.codec.specs.Matrix.{matrixAt}
-use Rattle.codec.specs.Material.{materialAt}
-use Rattle.codec.specs.Light.{lightAt}
 use Rattle.sections.specs.declared.key.FfVsKey.{FfVsKey}
-use Rattle.d3d9_model.specs.Operations.{OperationOn, Operation, setTransform, multiplyTransform, setMaterial, setLight, enableLight, mark}
-use Rattle.calls.specs.Answer.{Answer}
-use Rattle.calls.specs.Bits.{ffMarkFfVsDirty}
-use Rattle.light_calls.specs.Lights.{ffSetLightAt, ffSetLightEnabledAt}
-use Rattle.calls.specs.Materials.{ffSetMaterial}
-use Rattle.calls.specs.Transforms.{ffSetTransform, ffMultiplyTransform}
-
--- the host's calls that change a state: their items cross as bytes
-abbrev pub HostOperation : Type 0
-HostOperation = OperationOn (List ℕ) (List ℕ) (List ℕ) ℕ
+use Rattle.d3d9_model.specs.Operations.{Operation}
+use Rattle.call_laws.specs.HostOperations.{HostOperation}
 
 -- the slice that a refresh is lent: the mirror's, or another
 pub data Lent (A : Type 0) : Type 0 where
@@ -48,24 +33,3 @@ pub data Call : Type 0 where
 unfoldable pub slice : {A : Type 0} → Lent A → List A
 slice (theMirror m) = m
 slice (another m) = m
-
--- what the host's function gives: its number, and the image afterwards
-unfoldable pub hostAnswer : HostOperation → List ℕ → Answer (List ℕ)
-hostAnswer (setTransform n m) image = ffSetTransform image n m
-hostAnswer (multiplyTransform n m) image = ffMultiplyTransform image n m
-hostAnswer (setMaterial m) image = ffSetMaterial image m
-hostAnswer (setLight i l) image = ffSetLightAt image i l
-hostAnswer (enableLight i on) image = ffSetLightEnabledAt image i on
-hostAnswer (mark bits) image = ffMarkFfVsDirty image bits
-
--- the operation that its bytes say; an item of another length says none
-unfoldable pub ofLength : ℕ → List ℕ → Operation → Option Operation
-ofLength n bytes op = cond (eqb (length bytes) n) (some op) none
-
-unfoldable pub operationOf : HostOperation → Option Operation
-operationOf (setTransform n m) = ofLength 64 m (setTransform n (matrixAt m 0))
-operationOf (multiplyTransform n m) = ofLength 64 m (multiplyTransform n (matrixAt m 0))
-operationOf (setMaterial m) = ofLength 68 m (setMaterial (materialAt m 0))
-operationOf (setLight i l) = ofLength 104 l (setLight i (lightAt l 0))
-operationOf (enableLight i on) = some (enableLight i (not (eqb on 0)))
-operationOf (mark bits) = some (mark bits)

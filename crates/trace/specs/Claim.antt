@@ -13,26 +13,18 @@ use Rattle.sections.specs.Key.{SameShape}
 use Rattle.sections.specs.declared.key.FfVsKey.{FfVsKey}
 use Rattle.ff_state.specs.Operate as Operate
 use Rattle.refresh_calls.specs.Written.{mirrorFloats}
-use Rattle.trace.specs.Calls.{HostOperation, Lent, theMirror, another, slice, HostCall, operates, refreshes, Call, own, readIn, refresh, overwrite, host, hostOn}
-use Rattle.d3d9_model.specs.Operations.{setTransform, multiplyTransform, setMaterial, setLight, enableLight, mark}
+use Rattle.call_laws.specs.HostOperations.{ItemFits}
+use Rattle.trace.specs.Calls.{Lent, theMirror, another, slice, HostCall, operates, refreshes, Call, own, readIn, refresh, overwrite, host, hostOn}
 use Rattle.trace.specs.Calls as Calls
 use Rattle.trace.specs.World.{World, Track, start, wrongRows}
 use Rattle.trace.specs.Step.{Refresher, acceptedKey, step, run}
 
--- ---- arguments are values of their types: bytes, u8 and u32 numbers, f32 values
+-- ---- arguments are values of their types: bytes, u8 and u32 numbers (`ItemFits`), f32 values
 
 pub record KeyFits (k : FfVsKey) : Type 0 where
   pub mask : k .«light_active_mask» < 256
   pub fog : k .«fog_mode» < 256
   pub count : k .«vertex_blend_count» < 256
-
-abbrev pub ItemFits : HostOperation → Type 0
-ItemFits (setTransform n m) = Bytes m
-ItemFits (multiplyTransform n m) = Bytes m
-ItemFits (setMaterial m) = Bytes m
-ItemFits (setLight i l) = (i < 0x1_0000_0000) × Bytes l
-ItemFits (enableLight i on) = i < 0x1_0000_0000
-ItemFits (mark bits) = Unit {0}
 
 abbrev pub HostTyped : HostCall → Type 0
 HostTyped (operates h) = ItemFits h

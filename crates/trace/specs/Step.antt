@@ -17,10 +17,11 @@ use Rattle.image_model.specs.Abstract.{imageAbstract}
 use Rattle.ff_state.specs.Operate.{operate}
 use Rattle.packing_laws.specs.Abstract.{abstractInputs}
 use Rattle.calls.specs.Answer.{Answer}
+use Rattle.call_laws.specs.HostOperations.{hostAnswer, operationOf}
 use Rattle.refresh.specs.Mirror.{Outcome, refreshMirror}
 use Rattle.refresh_calls.specs.Written.{mirrorFloats}
 use Rattle.refresh_calls.specs.Mirror.{HostRefreshed, ffRefresh}
-use Rattle.trace.specs.Calls.{Lent, theMirror, another, slice, HostCall, operates, refreshes, Call, own, readIn, refresh, overwrite, host, hostOn, hostAnswer, operationOf}
+use Rattle.trace.specs.Calls.{Lent, theMirror, another, slice, HostCall, operates, refreshes, Call, own, readIn, refresh, overwrite, host, hostOn}
 use Rattle.trace.specs.Calls as Calls
 use Rattle.trace.specs.World.{value, inImage, asState, asImage, held, withMirror, trackOverwritten, World, standing, tracking, operated, operatedIf, imageRead, refreshedIf}
 

@@ -9,6 +9,7 @@ use Rattle.image_lists.proofs.Writing.{length-listBytes}
 use Rattle.sections.specs.Counts.{sectionRows}
 use Rattle.sections.specs.Sections.{firstRow}
 use Rattle.sections.proofs.Tiles.{fits-mirror}
+use Rattle.packing.specs.Pack.{packNumber}
 use Rattle.refresh.proofs.Packed.{Ready, rows-length, accepted}
 use Rattle.refresh_calls.specs.Written.{writtenSectionBytes}
 use Rattle.pack_calls.specs.Fill.{fillBytes}
@@ -110,7 +111,7 @@ same-length : tie.Need-same-length
 same-length c = search needs
 
 returns : tie.Need-returns
-unfolding writtenSectionBytes
+unfolding writtenSectionBytes packNumber
 returns c =
     let filled-at = c .before .before .before in
     let table = filled-at .before .before .before .before in

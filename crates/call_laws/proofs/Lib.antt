@@ -1,0 +1,3 @@
+pub mod HostOperations
+pub mod Bits
+pub mod Images
