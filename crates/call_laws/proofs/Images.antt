@@ -10,6 +10,7 @@ use Rattle.ff_state.specs.State.{freshState}
 use Rattle.ff_state.specs.declared.state.FfState.{FfState}
 use Rattle.agreement.specs.Agrees.{Agrees}
 use Rattle.agreement.proofs.Fresh.{fresh-valid, fresh-agrees}
+use Rattle.image_reasons.specs.Length.{imageLength}
 use Rattle.image.specs.Format.{imageBytes}
 use Rattle.image.specs.Read.{stateOf}
 use Rattle.image.specs.Write.{writeImage, writeNumber}
@@ -22,14 +23,14 @@ use Rattle.calls.specs.Images.{ffImageFresh}
 
 module _ (image : List ℕ) where
   -- "Writing refuses 4 for another length."
-  pub fresh-refused : (length image ≡ 24_204 → ⊥) → ffImageFresh image ≡ answer 4 image
+  pub fresh-refused : (length image ≡ imageLength → ⊥) → ffImageFresh image ≡ answer 4 image
   unfolding ffImageFresh writeImage writeNumber
-  fresh-refused h = rw (ne-eqb (length image) 24_204 h)
+  fresh-refused h = rw (ne-eqb (length image) imageLength h)
 
-  module _ (long : length image ≡ 24_204) where
+  module _ (long : length image ≡ imageLength) where
     is : ffImageFresh image ≡ answer 0 (imageBytes freshState)
     unfolding ffImageFresh writeImage writeNumber
-    is = rw (eq-eqb (length image) 24_204 long)
+    is = rw (eq-eqb (length image) imageLength long)
 
     left-is : ffImageFresh image .out ≡ imageBytes freshState
     left-is = ap (λ (r : Answer (List ℕ)). r .out) is

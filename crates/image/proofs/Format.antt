@@ -45,7 +45,7 @@ module _ (s : FfState) (z : Sized s) where
         length-listBytes entryBytes 112 length-entryBytes (s .«overflow_lights»),
         z .overflow,
       )
-      (refl, (refl, (refl, (refl, (refl, (refl, (refl, (refl, (refl, (refl, (refl, (refl, (refl, refl)))))))))))))
+      (refl, (refl, (refl, (refl, (refl, (refl, (refl, (refl, (refl, (refl, (refl, (refl, (refl, (refl, refl))))))))))))))
 
   pub length-imageBytes : length (imageBytes s) ≡ imageLength
   unfolding imageBytes

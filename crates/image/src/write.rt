@@ -10,7 +10,9 @@ use image_lists::put_entries;
 use image_lists::put_lights;
 use image_lists::put_palette;
 use image_lists::put_textures;
+use image_lists::put_zeros;
 use image_reasons::IMAGE_LENGTH;
+use image_reasons::TAIL_LENGTH;
 
 pub enum WriteAnswer {
     Written,
@@ -41,5 +43,6 @@ pub fn write_image(s: FfState, dst: &mut [u8]) -> WriteAnswer
     put_u16(dst, 17_928, s.world_palette_high_water);
     put_u16(dst, 17_930, s.overflow_count);
     put_entries(dst, 17_932, entries);
+    put_zeros(dst, 24_204, TAIL_LENGTH);
     WriteAnswer::Written
 }

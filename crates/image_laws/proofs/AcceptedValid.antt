@@ -1,6 +1,6 @@
 -- What is read from bytes that are not refused is a valid state.
 -- Assumes nothing.
-use Prim.Native.Nat.{ℕ, _+_, _*_, _≤_, _<_, min}
+use Prim.Native.Nat.{ℕ, _-_, _+_, _*_, _≤_, _<_, min}
 use native.Mathlib.Omega.{arith}
 use mathlib.Core.Path.{_≡_, sym, subst}
 use mathlib.Core.Bool.{false}
@@ -25,7 +25,8 @@ use Rattle.ff_state.specs.Valid.{Valid, SlotsValid, OverflowValid, FloatsValid}
 use Rattle.image_lists.specs.Entry.{entryAt}
 use Rattle.image_lists.specs.Lists.{listAt}
 use Rattle.image_lists.specs.Masks.{setMask, typeMask, slotSet, slotIs}
-use Rattle.image_reasons.specs.Reasons.{countOf, refused}
+use Rattle.image_reasons.specs.Length.{imageLength}
+use Rattle.image_reasons.specs.Reasons.{countOf, unusedFrom, refused}
 use Rattle.image_reasons.proofs.Accepted.{Accepted, accepted}
 use Rattle.image_reasons.proofs.Meaning.{ascends-is, flags-are, bits-are, slots-are}
 use Rattle.image_reasons.proofs.Unused.{unused-entries}
@@ -74,7 +75,7 @@ module _ (bytes : List ℕ) (b : Bytes bytes) (a : Accepted bytes) where
             λ (k : ℕ) (l : k < countOf bytes).
             listed (λ (e : OverflowLight). e .index < 0x1_0000_0000) entryAt 112 56 bytes 17_932 k zeroEntry (omega (arith, a .count))
             (numberAt-lt 4 bytes (17_932 + 112 * k) b);
-        unused = unused-entries (countOf bytes) bytes 17_932 (a .count) (omega (arith, a .long)) (a .unused);
+        unused = unused-entries (countOf bytes) bytes 17_932 (a .count) (omega (arith, a .long)) (imageLength - unusedFrom bytes) (omega (arith, a .count)) (a .unused);
       }
 
   floats-valid : let s = stateOf bytes in FloatsValid (s .view) (s .projection) (s .«world_palette») (s .«texture_transforms») (s .material) (s .lights) (s .«overflow_lights»)

@@ -6,6 +6,7 @@ use mathlib.Core.Path.{_≡_, sym, ap, subst, _∙_}
 use mathlib.Core.Bool.{false}
 use mathlib.Core.Logic.{_↔_}
 use mathlib.Core.List.{List, [], _∷_, _++_}
+use lib.ListN.{replicate}
 use Rattle.codec.specs.Little.{littleBytes, Bytes}
 use Rattle.codec.specs.Matrix.{matrixBytes}
 use Rattle.codec.specs.Light.{lightBytes}
@@ -18,6 +19,7 @@ use Rattle.d3d9_types.specs.declared.matrix.D3DMATRIX.{D3DMATRIX}
 use Rattle.light_table.specs.declared.entry.OverflowLight.{OverflowLight}
 use Rattle.image_lists.specs.Entry.{entryBytes}
 use Rattle.image_lists.specs.Lists.{listBytes}
+use Rattle.image_reasons.specs.Length.{tailLength}
 use Rattle.image_reasons.specs.Reasons.{refused}
 use Rattle.image.specs.Format.{imageBytes, imageTable}
 use Rattle.image.specs.Read.{stateOf}
@@ -37,6 +39,11 @@ unfolding littleBytes
 little-are zero n i = omega arith
 little-are (suc k) n zero = omega arith
 little-are (suc k) n (suc i) = little-are k (n / 256) i
+
+zeros-are : (n : ℕ) → Bytes (replicate n 0)
+zeros-are zero i = omega arith
+zeros-are (suc n) zero = omega arith
+zeros-are (suc n) (suc i) = zeros-are n i
 
 both-are : (v w : List ℕ) → Bytes v → Bytes w → Bytes (v ++ w)
 both-are [] w h k i = k i
@@ -89,6 +96,7 @@ image-bytes s =
     also little-are 2 (s .«world_palette_high_water»)
     also little-are 2 (s .«overflow_count»)
     also list-are entryBytes entry-are (s .«overflow_lights»)
+    also zeros-are tailLength
     also tt)
 
 -- ---- both directions

@@ -3,7 +3,7 @@
 use Prim.Native.Nat.{ℕ, _^_, _<_}
 use mathlib.Core.Path.{_≡_}
 use mathlib.Core.List.{List}
-use lib.ListN.{length, getD}
+use lib.ListN.{length, getD, replicate}
 use Rattle.codec.specs.Little.{littleBytes, numberAt}
 use Rattle.codec.specs.Material.{materialBytes, materialAt}
 use Rattle.codec.specs.Matrix.{matrixBytes, matrixAt}
@@ -27,6 +27,7 @@ use Rattle.image_lists.specs.Lists.{listBytes, listAt}
 use Rattle.image_lists.proofs.Back.{entryFits, matrices-start, lights-start, entries-start}
 use Rattle.image_lists.proofs.Entry.{entryAt-skips}
 use Rattle.image_lists.proofs.Reading.{listAt-skips}
+use Rattle.image_reasons.specs.Length.{tailLength}
 use Rattle.image.specs.Format.{imageBytes, imageTable, Sized}
 use Rattle.image.specs.Table.{field}
 use Rattle.image.proofs.Format.{image-holds}
@@ -47,6 +48,7 @@ pub record Written (s : FfState) (bytes : List ℕ) : Type 0 where
   pub index : Holds bytes (field 17_928 (littleBytes 2 (s .«world_palette_high_water»)))
   pub count : Holds bytes (field 17_930 (littleBytes 2 (s .«overflow_count»)))
   pub entries : Holds bytes (field 17_932 (listBytes entryBytes (s .«overflow_lights»)))
+  pub tail : Holds bytes (field 24_204 (replicate tailLength 0))
 
 pub written : (s : FfState) → Sized s → Written s (imageBytes s)
 unfolding imageTable
@@ -64,6 +66,7 @@ written s z =
     let h₁₁ = h₁₀ .1 in
     let h₁₂ = h₁₁ .1 in
     let h₁₃ = h₁₂ .1 in
+    let h₁₄ = h₁₃ .1 in
     record {
       view = h₁ .0;
       projection = h₂ .0;
@@ -78,6 +81,7 @@ written s z =
       index = h₁₁ .0;
       count = h₁₂ .0;
       entries = h₁₃ .0;
+      tail = h₁₄ .0;
     }
 
 -- ---- what a field that stands at its place reads as

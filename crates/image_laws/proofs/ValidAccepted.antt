@@ -5,9 +5,9 @@ use native.Mathlib.Omega.{arith}
 use mathlib.Core.Path.{_≡_, refl, sym, ap, _∙_}
 use mathlib.Core.Bool.{Bool, true, false, not, _||_}
 use mathlib.Core.List.{List}
-use lib.Dec.{lit<}
-use lib.ListN.{length, getD, replicate, getD-replicate}
-use borrow.Author.Tests.{le-leb, eq-eqb}
+use lib.Dec.{lit<, ltb}
+use lib.ListN.{length, getD, replicate, length-replicate, getD-replicate}
+use borrow.Author.Tests.{ltb-true, ltb-false, le-leb, eq-eqb}
 use Rattle.d3d9_types.specs.Light.{defaultLight}
 use Rattle.d3d9_types.specs.Matrix.{matrixFits}
 use Rattle.d3d9_types.specs.declared.matrix.D3DMATRIX.{D3DMATRIX}
@@ -24,7 +24,7 @@ use Rattle.ff_state.specs.State.{noMatrix, dirtyWord}
 use Rattle.ff_state.specs.Valid.{Valid, slotLight}
 use Rattle.ff_state.specs.declared.state.FfState.{FfState}
 use Rattle.image_lists.specs.Entry.{entryBytes, entryAt}
-use Rattle.image_reasons.specs.Length.{imageLength}
+use Rattle.image_reasons.specs.Length.{tailLength, imageLength}
 use Rattle.image_lists.specs.Lists.{listBytes, listAt}
 use Rattle.image_reasons.specs.Tests.{nanFree, lightsNanFree, plainLight, entriesNanFree, plainEntry, ascends, flags, flagAt, zeros, zeroByte, bitsDefined, bitDefined, slotsDefault, slotDefault, defaultAt}
 use Rattle.image_reasons.specs.Reasons.{countOf, refused}
@@ -123,22 +123,35 @@ module _ (s : FfState) (v : Valid s) (bytes : List ℕ) (w : Written s bytes) wh
         sym (getD-listAt entryAt 112 56 bytes 17_932 k zeroEntry less) ∙ ap (λ (es : List OverflowLight). getD es k zeroEntry) read in
         le-leb (entryAt bytes (17_932 + 112 * k) .enabled) 1 (rw is (v .overflow .flags k (omega arith))))
 
-    -- byte j of what stands behind the entries in use belongs to an unused one
-    unused-pass : zeros (6_272 - 112 * n) bytes (17_932 + 112 * n) ≡ true
-    unfolding zeros
-    unused-pass =
-        every-is (zeroByte bytes (17_932 + 112 * n)) (6_272 - 112 * n)
-        (λ (j : ℕ) (l : j < 6_272 - 112 * n).
-        let o = 112 * n + j in
+    -- byte o of the entries and the tail, from an unused entry on
+    unused-zero : (o : ℕ) → 112 * n ≤ o → o < 6_272 → getD bytes (17_932 + o) 0 ≡ 0
+    unused-zero o above below =
         let k = o / 112 in
         let r = o % 112 in
         let less : k < 56 = omega (arith, v .overflow .count) in
         let from : s .«overflow_count» ≤ k = omega (arith, v .overflow .count) in
-        let place : 17_932 + 112 * n + j ≡ 17_932 + 112 * k + r = omega arith in
+        let place : 17_932 + o ≡ 17_932 + 112 * k + r = omega arith in
         let is : IsAt (replicate 112 0) bytes (17_932 + 112 * k) = rw (unused-is s v k from less, zero-bytes) at (entry-is k less) in
-        let zero : getD bytes (17_932 + 112 * n + j) 0 ≡ 0 =
-        rw place (byte-is (replicate 112 0) bytes (17_932 + 112 * k) r is (omega arith) ∙ getD-replicate 112 r 0 0 (omega arith)) in
-        eq-eqb (getD bytes (17_932 + 112 * n + j) 0) 0 zero)
+        rw place (byte-is (replicate 112 0) bytes (17_932 + 112 * k) r is (omega arith) ∙ getD-replicate 112 r 0 0 (omega arith))
+
+    tail-zero : (o : ℕ) → 6_272 ≤ o → o < 6_272 + tailLength → getD bytes (17_932 + o) 0 ≡ 0
+    tail-zero o above below =
+        let j = o - 6_272 in
+        let place : 17_932 + o ≡ 24_204 + j = omega arith in
+        rw place (byte-is (replicate tailLength 0) bytes 24_204 j (held-is (w .tail)) (rw length-replicate (omega arith)) ∙ getD-replicate tailLength j 0 0 (omega arith))
+
+    unused-pass : zeros (imageLength - (17_932 + 112 * n)) bytes (17_932 + 112 * n) ≡ true
+    unfolding zeros
+    unused-pass =
+        every-is (zeroByte bytes (17_932 + 112 * n)) (imageLength - (17_932 + 112 * n))
+        (λ (j : ℕ) (l : j < imageLength - (17_932 + 112 * n)).
+        let o = 112 * n + j in
+        let place : 17_932 + 112 * n + j ≡ 17_932 + o = omega arith in
+        rw place (eq-eqb (getD bytes (17_932 + o) 0) 0 (by-cases o (omega arith) (omega arith) (ltb o 6_272) refl)))
+      where
+        by-cases : (o : ℕ) → 112 * n ≤ o → o < 6_272 + tailLength → (t : Bool) → ltb o 6_272 ≡ t → getD bytes (17_932 + o) 0 ≡ 0
+        by-cases o above below true q = unused-zero o above (ltb-true o 6_272 q)
+        by-cases o above below false q = tail-zero o (ltb-false o 6_272 q) below
 
   written-passes : length bytes ≡ imageLength → stateOf bytes ≡ s → Accepted bytes
   unfolding stateOf

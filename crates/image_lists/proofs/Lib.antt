@@ -3,3 +3,4 @@ pub mod Writing
 pub mod Entry
 pub mod Back
 pub mod Mask
+pub mod Zeros

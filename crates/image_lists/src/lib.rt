@@ -14,3 +14,4 @@ pub use write::put_entries;
 pub use write::put_lights;
 pub use write::put_palette;
 pub use write::put_textures;
+pub use write::put_zeros;

@@ -1,7 +1,7 @@
-// Matrices, lights and overflow entries, written one after another.
+// Matrices, lights and overflow entries, written one after another; zero bytes.
 ghost use mathlib.Core.Path.{_≡_};
 ghost use Prim.Native.Nat.{_+_, _≤_};
-ghost use lib.ListN.{length};
+ghost use lib.ListN.{length, replicate};
 ghost use Rattle.codec.specs.Light.{lightBytes};
 ghost use Rattle.codec.specs.Matrix.{matrixBytes};
 ghost use Rattle.codec.specs.Put.{put};
@@ -63,6 +63,17 @@ pub fn put_entries(dst: &mut [u8], at: usize, entries: [OverflowLight; 56])
     let mut i = 0usize;
     while i < 56 {
         put_entry(dst, at + 112 * i, entries[i]);
+        i = i + 1;
+    }
+}
+
+pub fn put_zeros(dst: &mut [u8], at: usize, n: usize)
+    requires { ⌜ at + n ≤ length (now dst) ⌝ }
+    ensures { λ _. ⌜ now (dst .exit) ≡ put at (replicate n 0) (now (dst .entry)) ⌝ }
+{
+    let mut i = 0usize;
+    while i < n {
+        dst[at + i] = 0;
         i = i + 1;
     }
 }

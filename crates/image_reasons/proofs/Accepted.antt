@@ -11,7 +11,7 @@ use Rattle.codec.specs.Little.{numberAt}
 use Rattle.lemmas.proofs.Tests.{neither}
 use Rattle.image_reasons.specs.Length.{imageLength}
 use Rattle.image_reasons.specs.Tests.{nanFree, lightsNanFree, entriesNanFree, ascends, flags, zeros, bitsDefined, slotsDefault}
-use Rattle.image_reasons.specs.Reasons.{anotherLength, dirtyAbove63, zeroByteSet, indexAbove255, countOf, numbersRefused, notAscending, enableNotFlag, entriesRefused, enabledUndefined, slotsRefused, anotherNaN, refused}
+use Rattle.image_reasons.specs.Reasons.{anotherLength, dirtyAbove63, zeroByteSet, indexAbove255, countOf, unusedFrom, numbersRefused, notAscending, enableNotFlag, entriesRefused, enabledUndefined, slotsRefused, anotherNaN, refused}
 use Rattle.image_reasons.proofs.Numbers.{few-entries}
 
 -- an image ends with its 56 entries
@@ -27,7 +27,7 @@ pub record Accepted (bytes : List ℕ) : Type 0 where
   pub count : countOf bytes ≤ 56
   pub sorted : ascends (countOf bytes) bytes 17_932 ≡ true
   pub enables : flags (countOf bytes) bytes 17_932 ≡ true
-  pub unused : zeros (6_272 - 112 * countOf bytes) bytes (17_932 + 112 * countOf bytes) ≡ true
+  pub unused : zeros (imageLength - unusedFrom bytes) bytes (unusedFrom bytes) ≡ true
   pub enabled-defined : bitsDefined (numberAt 1 bytes 17_924) (numberAt 1 bytes 17_925) ≡ true
   pub undefined-default : slotsDefault (numberAt 1 bytes 17_925) bytes 17_092 ≡ true
   pub floats : nanFree 4_273 bytes 0 ≡ true
@@ -58,7 +58,7 @@ accepted bytes h =
       count = few-entries bytes (h₂ .0);
       sorted = not-false (ascends (countOf bytes) bytes 17_932) (e₁ .0);
       enables = not-false (flags (countOf bytes) bytes 17_932) (e₂ .0);
-      unused = not-false (zeros (6_272 - 112 * countOf bytes) bytes (17_932 + 112 * countOf bytes)) (e₂ .1);
+      unused = not-false (zeros (imageLength - unusedFrom bytes) bytes (unusedFrom bytes)) (e₂ .1);
       enabled-defined = not-false (bitsDefined (numberAt 1 bytes 17_924) (numberAt 1 bytes 17_925)) (s₁ .0);
       undefined-default = not-false (slotsDefault (numberAt 1 bytes 17_925) bytes 17_092) (s₁ .1);
       floats = f₁ .0;

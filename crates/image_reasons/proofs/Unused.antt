@@ -1,4 +1,4 @@
--- Entries whose bytes are all 0 read as the zero entry.
+-- Entries whose bytes are all 0 read as the zero entry. They stand at the front of z zero bytes.
 -- Assumes nothing.
 use Prim.Native.Nat.{ℕ, _+_, _-_, _*_, _≤_, _<_}
 use native.Mathlib.Omega.{arith}
@@ -52,13 +52,13 @@ pub zero-bytes : entryBytes zeroEntry ≡ replicate 112 0
 unfolding entryBytes zeroEntry zeroLight lightBytes colorBytes rowBytes vectorBytes flatten floatBytes littleBytes toBits
 zero-bytes = refl
 
-module _ (n : ℕ) (bytes : List ℕ) (at : ℕ) (few : n ≤ 56) (room : at + 6272 ≤ length bytes) (h : zeros (6272 - 112 * n) bytes (at + 112 * n) ≡ true) where
+module _ (n : ℕ) (bytes : List ℕ) (at : ℕ) (few : n ≤ 56) (room : at + 6272 ≤ length bytes) (z : ℕ) (all : 6272 - 112 * n ≤ z) (h : zeros z bytes (at + 112 * n) ≡ true) where
   zero-here : (k j : ℕ) → n ≤ k → k < 56 → j < 112 → getD bytes (at + 112 * k + j) 0 ≡ 0
   unfolding zeros
   zero-here k j from to less =
       let o : ℕ = 112 * k - 112 * n + j in
       let e : at + 112 * k + j ≡ at + 112 * n + o = omega arith in
-      rw e (eqb-true (getD bytes (at + 112 * n + o) 0) 0 (every-holds (zeroByte bytes (at + 112 * n)) (6272 - 112 * n) h o (omega arith)))
+      rw e (eqb-true (getD bytes (at + 112 * n + o) 0) 0 (every-holds (zeroByte bytes (at + 112 * n)) z h o (omega arith)))
 
   same-zero : (k : ℕ) → n ≤ k → k < 56 → same (entryBytes zeroEntry) bytes (at + 112 * k) ≡ true
   unfolding same

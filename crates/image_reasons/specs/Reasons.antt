@@ -38,9 +38,12 @@ notAscending bytes = not (ascends (countOf bytes) bytes 17_932)
 abbrev pub enableNotFlag : List ℕ → Bool
 enableNotFlag bytes = not (flags (countOf bytes) bytes 17_932)
 
--- what stands behind the entries in use, up to the end of all 56
+-- what stands behind the entries in use, up to the image's end
+abbrev pub unusedFrom : List ℕ → ℕ
+unusedFrom bytes = 17_932 + 112 * countOf bytes
+
 abbrev pub unusedNotZero : List ℕ → Bool
-unusedNotZero bytes = not (zeros (6_272 - 112 * countOf bytes) bytes (17_932 + 112 * countOf bytes))
+unusedNotZero bytes = not (zeros (imageLength - unusedFrom bytes) bytes (unusedFrom bytes))
 
 unfoldable pub entriesRefused : List ℕ → Bool
 entriesRefused bytes = notAscending bytes || (enableNotFlag bytes || unusedNotZero bytes)

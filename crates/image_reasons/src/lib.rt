@@ -3,4 +3,5 @@ mod reasons;
 mod tests;
 
 pub use reasons::IMAGE_LENGTH;
+pub use reasons::TAIL_LENGTH;
 pub use reasons::image_refused;

@@ -15,7 +15,10 @@ use crate::tests::zeros_at;
 use codec::u8_at;
 use codec::u16_at;
 
-pub const IMAGE_LENGTH: usize = 24_204;
+// Zero bytes behind the entries: none.
+pub const TAIL_LENGTH: usize = 0;
+
+pub const IMAGE_LENGTH: usize = 24_204 + TAIL_LENGTH;
 
 fn numbers_refused(s: &[u8]) -> bool
     requires { ⌜ imageLength ≤ length (now s) ⌝ }
@@ -44,7 +47,8 @@ fn entries_refused(s: &[u8]) -> bool
     if !flags_ok(s, 17_932, n) {
         return true;
     }
-    !zeros_at(s, 17_932 + 112 * n, 6_272 - 112 * n)
+    let from = 17_932 + 112 * n;
+    !zeros_at(s, from, IMAGE_LENGTH - from)
 }
 
 fn slots_refused(s: &[u8]) -> bool

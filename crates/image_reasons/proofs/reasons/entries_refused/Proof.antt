@@ -25,14 +25,11 @@ returns-2 : tie.Need-returns-2
 unfolding entriesRefused
 returns-2 c = rw (← c .before .before .before .before .u16-at .ensures, ← c .before .before .before .entries-ascending .ensures, c .before .before .if1 .left, ← c .before .flags-ok .ensures, c .if2 .taken)
 
-mul-zeros-at : tie.Need-mul-zeros-at
-mul-zeros-at c = search needs
+mul-from : tie.Need-mul-from
+mul-from c = search needs
 
-add-zeros-at : tie.Need-add-zeros-at
-add-zeros-at c = search needs
-
-mul-zeros-at-2 : tie.Need-mul-zeros-at-2
-mul-zeros-at-2 c = search needs
+add-from : tie.Need-add-from
+add-from c = search needs
 
 sub-zeros-at : tie.Need-sub-zeros-at
 sub-zeros-at c = search needs
@@ -54,9 +51,8 @@ entries-refused-spec =
     returns
     flags-ok-requires
     returns-2
-    mul-zeros-at
-    add-zeros-at
-    mul-zeros-at-2
+    mul-from
+    add-from
     sub-zeros-at
     zeros-at-requires
     returns-3)
