@@ -1,3 +1,4 @@
 pub mod HostOperations
 pub mod Bits
 pub mod Images
+pub mod Book

@@ -1,1 +1,2 @@
 pub mod HostOperations
+pub mod Book

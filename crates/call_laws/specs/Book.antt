@@ -1,0 +1,11 @@
+-- Two abstract states that no call tells apart. Document 01's plain book "holds matrices by state number, material, and lights by index, each with an enable".
+use Prim.Native.Nat.{ℕ}
+use mathlib.Core.Path.{_≡_}
+use mathlib.Core.Bool.{true}
+use Rattle.d3d9_model.specs.Operations.{known}
+use Rattle.d3d9_model.specs.State.{AbstractState}
+
+pub record SameBook (a b : AbstractState) : Type 0 where
+  pub matrix : (n : ℕ) → known n ≡ true → a .matrix n ≡ b .matrix n
+  pub material : a .material ≡ b .material
+  pub lights : a .lights ≡ b .lights
