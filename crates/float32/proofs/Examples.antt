@@ -38,7 +38,7 @@ roots =
     ∷ pair 0x00000001 0x1a3504f3
     ∷ []
 
--- each branch: within a quarter turn, beyond it, beyond half a turn and within a quarter of the whole; a large angle, a negative one, an infinity
+-- each branch: within a quarter turn, beyond it, beyond half a turn and within a quarter of the whole; a quarter turn itself and the float behind it; a large angle, a negative one, an infinity
 cosines : List Pair
 cosines =
     pair 0x00000000 0x3f800000
@@ -47,6 +47,8 @@ cosines =
     ∷ pair 0x40afeddf 0x3f3504f0
     ∷ pair 0x4089f629 0xbec7e59a
     ∷ pair 0x401a5bed 0xbf3ecf76
+    ∷ pair 0x3fc90fdb 0x37cf8000
+    ∷ pair 0x3fc90fdc 0xb7d08000
     ∷ pair 0x782aaaaa 0xbf7ffe95
     ∷ pair 0xff5c96a0 0x3e8a8d28
     ∷ pair 0x7f800000 0x7fc00000

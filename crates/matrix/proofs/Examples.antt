@@ -62,6 +62,16 @@ p10 : row (transposed (matMul translation identity)) 0 ≡ four one zero zero (p
 unfolding transposed matMul dot identity column row sumFrom add mul ofInt
 p10 = refl
 
+-- a matrix that tells the order of the terms by its columns: in the first 1 is swallowed and 5 added to 0, in the second 1 is swallowed
+abbrev swallowing : D3DMATRIX
+swallowing =
+    let big = p (2 ^ 24) in
+    rowsOf (four big big one zero) (four one one zero zero) (four (neg big) zero zero zero) (four (p 5) (neg big) zero one)
+
+product-in-order : row (matMul (matrixOf (λ i j. one)) swallowing) 0 ≡ four (p 5) zero one one
+unfolding matMul dot column row sumFrom add mul neg ofInt
+product-in-order = refl
+
 -- two triangular matrices, their product, and its inverse in whole numbers
 abbrev lower : D3DMATRIX
 lower = rowsOf (four one zero zero zero) (four one one zero zero) (four (n 1) (p 3) one zero) (four (n 1) one (p 3) one)
@@ -131,3 +141,13 @@ direction-stays = refl
 direction-negative-zero : viewTransformDir (matrixOf (λ i j. n 0)) (vectorOf (λ j. one)) ≡ vectorOf (λ j. n 0)
 unfolding viewTransformDir column row sumFrom add mul neg ofInt
 direction-negative-zero = refl
+
+-- ---- their sums too run from the left, the translation last
+
+point-in-order : viewTransformPoint swallowing (three one one one) ≡ three (p 5) zero one
+unfolding viewTransformPoint column row sumFrom add mul neg ofInt
+point-in-order = refl
+
+direction-in-order : viewTransformDir swallowing (three one one one) ≡ three zero (p (2 ^ 24)) one
+unfolding viewTransformDir column row sumFrom add mul neg ofInt
+direction-in-order = refl

@@ -24,7 +24,7 @@ use Rattle.packing.specs.Pack.{packSection, stateCount}
 use Rattle.packing.specs.Inputs.{inputsOf}
 
 -- HAS_RHW, LIGHTING_ENABLED, SPECULAR_ENABLE, VERTEX_BLEND_INDEXED, light_active_mask, vertex_blend_count
-abbrev keyOf : Bool → Bool → Bool → Bool → ℕ → ℕ → FfVsKey
+abbrev pub keyOf : Bool → Bool → Bool → Bool → ℕ → ℕ → FfVsKey
 keyOf rhw lit specular indexed mask count =
     record {
       «has_rhw» = rhw;

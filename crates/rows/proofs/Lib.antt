@@ -2,3 +2,4 @@ pub mod Stores
 pub mod Floats
 pub mod Items
 pub mod Fits
+pub mod Scene

@@ -1,0 +1,68 @@
+-- The scene of crates/rows and crates/light_rows, set into a fresh state by calls: each section packs the Rust's rows of it. Computed.
+-- Assumes nothing.
+use Prim.Native.Nat.{ℕ}
+use mathlib.Core.Path.{_≡_, refl}
+use mathlib.Core.Bool.{true, false}
+use mathlib.Core.List.{List, [], _∷_, _++_}
+use lib.Count.{leadingZeros}
+use lib.Ieee.{add, sub, mul, div, rem, neg, lt, isNan, ofInt, ofBits, toBits}
+use Rattle.d3d9_types.specs.Matrix.{identity}
+use Rattle.d3d9_types.specs.Light.{defaultLight}
+use Rattle.float32.specs.Larger.{larger}
+use Rattle.float32.specs.Root.{sqrtOf, rootOf, nearestRoot, floorRoot, rootFrom}
+use Rattle.float32.specs.Cosine.{magnitude, turn, halfTurn, quarterTurn, folded, fraction, horner, polynomial, cosFolded, cosOf}
+use Rattle.matrix.specs.Entry.{column, row}
+use Rattle.matrix.specs.Sum.{sumFrom}
+use Rattle.matrix.specs.Product.{dot, matMul}
+use Rattle.matrix.specs.Transposition.{transposed}
+use Rattle.matrix.specs.View.{viewTransformPoint, viewTransformDir}
+use Rattle.words.specs.Bits.{hasBit, withBit}
+use Rattle.light_table.specs.Entry.{zeroLight, zeroEntry}
+use Rattle.light_table.specs.Kinds.{contributes}
+use Rattle.light_table.specs.Overflow.{usedCount}
+use Rattle.light_table.specs.Active.{slotsFrom, activeOverflow, lowBits, kindMask, masksOf}
+use Rattle.ff_state.specs.State.{freshState}
+use Rattle.ff_state.specs.Dirty.{dirtied}
+use Rattle.ff_state.specs.Transforms.{slotOf, placed, changeAt, setTransform}
+use Rattle.ff_state.specs.Material.{setMaterial}
+use Rattle.ff_state.specs.Slots.{setSlot, defineSlot, enableSlot}
+use Rattle.ff_state.specs.Lights.{setLightAt, flag, setLightEnabledAt}
+use Rattle.ff_state.specs.Active.{lightActiveMask, activeLights}
+use Rattle.ff_state.specs.declared.state.FfState.{FfState}
+use Rattle.sections.specs.declared.sections.Section.the-variants.{Wv, Proj, Material, Lights, Palette}
+use Rattle.sections.specs.declared.key.FfVsKey.{FfVsKey}
+use Rattle.sections.specs.Counts.{places, materialCount, lightCount, paletteMatrices, paletteCount}
+use Rattle.rows.specs.Rows.{floats, rowsOf}
+use Rattle.rows.specs.Matrices.{projectionRows, worldViewRows, paletteRows}
+use Rattle.rows.specs.Material.{materialRows}
+use Rattle.rows.proofs.Scene.{Bits, world, secondWorld, view, projection, material, projectionBits, worldViewBits, secondBits, materialBits}
+use Rattle.light_rows.specs.Floor.{smallest, floored}
+use Rattle.light_rows.specs.Direction.{lengthOf, unitDirection}
+use Rattle.light_rows.specs.Cone.{halfCosine, spotScale, coneOf}
+use Rattle.light_rows.specs.Light.{kindOf, lightRows, lightsRows}
+use Rattle.light_rows.proofs.Scene.{spot, spotBits}
+use Rattle.packing.specs.Inputs.{packedRows, maskAccepted}
+use Rattle.packing.specs.Pack.{packInputs, packSection}
+use Rattle.packing_laws.specs.Cases.{keyOf, packed}
+
+unfoldable moved : FfState
+moved =
+    let first = setTransform freshState 256 world .state in
+    let second = setTransform first 257 secondWorld .state in
+    let seen = setTransform second 2 view .state in
+    setTransform seen 3 projection .state
+
+unfoldable scene : FfState
+scene = setLightEnabledAt (setLightAt (setMaterial moved material) 0 spot .state) 0 true .state
+
+-- lit and specular, one light, two matrices
+abbrev key : FfVsKey
+key = keyOf false true true false 1 2
+
+abbrev flat : List Bits → List ℕ
+flat [] = []
+flat (b ∷ bs) = b .x ∷ b .y ∷ b .z ∷ b .w ∷ flat bs
+
+wv-right : packed Wv scene key ≡ flat worldViewBits
+unfolding scene moved packed packSection packInputs packedRows maskAccepted floats worldViewRows matMul dot transposed column row sumFrom add mul ofInt toBits setTransform changeAt slotOf placed setMaterial setLightAt setLightEnabledAt flag setSlot enableSlot defineSlot dirtied withBit hasBit freshState identity
+wv-right = refl

@@ -1,0 +1,107 @@
+//! Prints the rows that the Rust packs of one scene, a row a line, as bits: what proofs/Scene of crates/rows and crates/light_rows
+//! expects, in that order. Its inputs are small whole numbers that differ, so that no two can be exchanged unseen; then come two lights that
+//! tell the orders of the sums.
+
+use cases::answers::Words;
+use cases::call::{Call, Name};
+use cases::key::Key;
+use cases::model::Output;
+use cases::states::{enable, set_light, set_material, set_transform};
+use cases::world::World;
+
+const WORLD: [f32; 16] = [
+    1.0, 2.0, 3.0, 4.0, 5.0, 6.0, 7.0, 8.0, 9.0, 10.0, 11.0, 12.0, 13.0, 14.0, 15.0, 16.0,
+];
+const SECOND_WORLD: [f32; 16] = [
+    2.0, 0.0, 1.0, 3.0, 1.0, 5.0, 0.0, 2.0, 0.0, 7.0, 4.0, 1.0, 3.0, 1.0, 6.0, 0.0,
+];
+const VIEW: [f32; 16] = [
+    0.0, 1.0, 0.0, 2.0, 3.0, 0.0, 1.0, 0.0, 0.0, 2.0, 0.0, 1.0, 5.0, 6.0, 7.0, 1.0,
+];
+const PROJECTION: [f32; 16] = [
+    2.0, 3.0, 5.0, 7.0, 11.0, 13.0, 17.0, 19.0, 23.0, 29.0, 31.0, 37.0, 41.0, 43.0, 47.0, 53.0,
+];
+/// 2^24 swallows a 1 that is added to it.
+const SWALLOWING: [f32; 16] = {
+    const BIG: f32 = 16_777_216.0;
+    [
+        BIG, BIG, 1.0, 0.0, 1.0, 1.0, 0.0, 0.0, -BIG, 0.0, 0.0, 0.0, 5.0, -BIG, 0.0, 1.0,
+    ]
+};
+
+const LIT: Key = Key::of([0, 1, 1, 0, 1, 0, 2]);
+
+/// A spot light of 25 different numbers.
+fn spot() -> [u32; 26] {
+    let mut light = [0; 26];
+    for (at, word) in light.iter_mut().enumerate().skip(1) {
+        *word = (at as f32).to_bits();
+    }
+    light[0] = 2;
+    light[24] = 0.5f32.to_bits();
+    light[25] = 0.75f32.to_bits();
+    light
+}
+
+/// A directional light of zeros but for these.
+fn directional(position: [f32; 3], direction: [f32; 3]) -> [u32; 26] {
+    let mut light = [0; 26];
+    light[0] = 3;
+    for axis in 0..3 {
+        light[13 + axis] = position[axis].to_bits();
+        light[16 + axis] = direction[axis].to_bits();
+    }
+    light
+}
+
+fn words(m: [f32; 16]) -> Words {
+    m.map(f32::to_bits)
+}
+
+/// Prints some rows of a section.
+fn print(calls: &[Call], name: Name, rows: std::ops::Range<usize>) {
+    let packed = World::after(calls).judge(&Call::keyed(name, LIT), None).answer;
+    let Ok(Output::Bytes(bytes)) = packed else {
+        panic!("refused");
+    };
+    for row in &bytes.as_chunks::<16>().0[rows] {
+        let row = row.as_chunks::<4>().0;
+        let row: Vec<String> = row
+            .iter()
+            .map(|&four| format!("0x{:08X}", u32::from_le_bytes(four)))
+            .collect();
+        println!("{}", row.join(" "));
+    }
+}
+
+fn main() {
+    let material = (1..=17).flat_map(|n| (n as f32).to_le_bytes()).collect();
+    let calls = [
+        set_transform(256, &words(WORLD)),
+        set_transform(257, &words(SECOND_WORLD)),
+        set_transform(2, &words(VIEW)),
+        set_transform(3, &words(PROJECTION)),
+        set_material(material),
+        set_light(0, &spot()),
+        enable(0, 1),
+    ];
+    print(&calls, Name::FillProj, 0..4);
+    print(&calls, Name::FillWv, 0..4);
+    print(&calls, Name::FillPalette, 4..8);
+    print(&calls, Name::FillMaterial, 0..5);
+    print(&calls, Name::FillLights, 0..6);
+    let ordered = |view: [f32; 16], position, direction| {
+        let calls = [
+            set_transform(2, &words(view)),
+            set_light(0, &directional(position, direction)),
+            enable(0, 1),
+        ];
+        print(&calls, Name::FillLights, 0..2);
+    };
+    let mut identity = [0.0; 16];
+    for i in 0..4 {
+        identity[5 * i] = 1.0;
+    }
+    ordered(identity, [0.0; 3], [0.1, 0.1, 0.4]);
+    ordered(SWALLOWING, [1.0; 3], [1.0; 3]);
+}
