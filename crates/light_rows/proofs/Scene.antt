@@ -1,11 +1,11 @@
 -- A scene, computed: a spot light of 25 different numbers under a view that no row of it leaves as it is, then the orders of the sums. The expected bits are the Rust's (`oracle/run scene`).
 -- Assumes nothing.
-use Prim.Native.Nat.{ℕ, _^_}
+use Prim.Native.Nat.{_^_}
 use mathlib.Core.Path.{_≡_, refl}
 use mathlib.Core.Bool.{false}
 use mathlib.Core.List.{List, [], _∷_}
 use lib.IntN.{negsuc}
-use lib.Ieee.{Float, fin, binary32, ofBits, toBits, ofInt, add, sub, mul, div, rem, neg, lt, isNan}
+use lib.Ieee.{Float, fin, ofBits, toBits, ofInt, add, sub, mul, div, rem, neg, lt, isNan}
 use Rattle.d3d9_types.specs.Numbers.{zero, one}
 use Rattle.d3d9_types.specs.Color.{black}
 use Rattle.d3d9_types.specs.Matrix.{identity}
@@ -23,7 +23,7 @@ use Rattle.rows.proofs.Scene.{Bits, bits, rowBits, p, rgba, view}
 use Rattle.light_rows.specs.Floor.{smallest, floored}
 use Rattle.light_rows.specs.Direction.{lengthOf, unitDirection}
 use Rattle.light_rows.specs.Cone.{half, halfCosine, spotScale, coneOf}
-use Rattle.light_rows.specs.Light.{kindOf, lightRows, sixRows, lightsRows}
+use Rattle.light_rows.specs.Light.{kindOf, lightRows, lightsRows}
 
 abbrev xyz : Float → Float → Float → D3DVECTOR
 xyz x y z = record { x = x; y = y; z = z }

@@ -66,3 +66,19 @@ flat (b ∷ bs) = b .x ∷ b .y ∷ b .z ∷ b .w ∷ flat bs
 wv-right : packed Wv scene key ≡ flat worldViewBits
 unfolding scene moved packed packSection packInputs packedRows maskAccepted floats worldViewRows matMul dot transposed column row sumFrom add mul ofInt toBits setTransform changeAt slotOf placed setMaterial setLightAt setLightEnabledAt flag setSlot enableSlot defineSlot dirtied withBit hasBit freshState identity
 wv-right = refl
+
+proj-right : packed Proj scene key ≡ flat projectionBits
+unfolding scene moved packed packSection packInputs packedRows maskAccepted floats projectionRows transposed column row ofInt toBits setTransform changeAt slotOf placed setMaterial setLightAt setLightEnabledAt flag setSlot enableSlot defineSlot dirtied withBit hasBit freshState identity
+proj-right = refl
+
+material-right : packed Material scene key ≡ flat materialBits
+unfolding scene moved packed packSection packInputs packedRows maskAccepted floats materialRows materialCount ofInt toBits setTransform changeAt slotOf placed setMaterial setLightAt setLightEnabledAt flag setSlot enableSlot defineSlot dirtied withBit hasBit freshState identity
+material-right = refl
+
+lights-right : packed Lights scene key ≡ flat spotBits
+unfolding scene moved packed packSection packInputs packedRows maskAccepted floats lightCount places leadingZeros rowsOf lightsRows lightRows kindOf unitDirection lengthOf floored smallest coneOf spotScale halfCosine cosOf cosFolded folded polynomial horner fraction magnitude turn halfTurn quarterTurn larger sqrtOf rootOf nearestRoot floorRoot rootFrom viewTransformPoint viewTransformDir column row sumFrom add sub mul div rem neg lt isNan ofInt ofBits toBits activeLights lightActiveMask slotsFrom activeOverflow masksOf lowBits kindMask usedCount contributes setTransform changeAt slotOf placed setMaterial setLightAt setLightEnabledAt flag setSlot enableSlot defineSlot dirtied withBit hasBit freshState identity defaultLight zeroEntry zeroLight
+lights-right = refl
+
+palette-right : packed Palette scene key ≡ flat (worldViewBits ++ secondBits)
+unfolding scene moved packed packSection packInputs packedRows maskAccepted floats paletteCount paletteMatrices paletteRows rowsOf worldViewRows matMul dot transposed column row sumFrom add mul ofInt toBits setTransform changeAt slotOf placed setMaterial setLightAt setLightEnabledAt flag setSlot enableSlot defineSlot dirtied withBit hasBit freshState identity
+palette-right = refl

@@ -1,11 +1,21 @@
--- How many rows a section has at most. Assumes nothing.
-use Prim.Native.Nat.{ℕ, _≤_, _<_}
+-- How many places a mask has, and how many rows a section at most. Assumes nothing.
+use Prim.Native.Nat.{ℕ, _+_, _-_, _*_, _^_, _≤_, _<_}
 use native.Mathlib.Omega.{arith}
+use mathlib.Core.Path.{_≡_, subst}
+use lib.Count.{leadingZeros, leading-length}
 use lib.Dec.{eqb}
 use mathlib.Core.Bool.{cond}
 use Rattle.lemmas.proofs.Branch.{branch}
 use Rattle.sections.specs.Counts.{places, materialCount, lightCount, paletteMatrices, paletteCount, textureCount}
 use Rattle.sections.specs.declared.key.FfVsKey.{FfVsKey}
+
+-- up to the highest bit and no further, however many bits are set below it
+pub places-length : (mask : ℕ) → mask < 256 → (mask < 2 ^ places mask) × (2 ^ places mask ≤ 2 * mask + 1)
+unfolding places
+places-length mask byte =
+    let l = leading-length 8 mask byte in
+    let e : l .0 ≡ 8 - leadingZeros 8 mask = omega (arith, l .1) in
+    subst (λ (n : ℕ). (mask < 2 ^ n) × (2 ^ n ≤ 2 * mask + 1)) e (l .2, l .3)
 
 pub places-most : (mask : ℕ) → places mask ≤ 8
 unfolding places

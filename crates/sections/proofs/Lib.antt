@@ -1,4 +1,5 @@
 pub mod Every
 pub mod Bounds
+pub mod Shape
 pub mod Reach
 pub mod Tiles
