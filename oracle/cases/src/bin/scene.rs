@@ -60,7 +60,9 @@ fn words(m: [f32; 16]) -> Words {
 
 /// Prints some rows of a section.
 fn print(calls: &[Call], name: Name, rows: std::ops::Range<usize>) {
-    let packed = World::after(calls).judge(&Call::keyed(name, LIT), None).answer;
+    let packed = World::after(calls)
+        .judge(&Call::keyed(name, LIT), None)
+        .answer;
     let Ok(Output::Bytes(bytes)) = packed else {
         panic!("refused");
     };
