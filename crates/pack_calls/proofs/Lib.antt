@@ -1,3 +1,4 @@
 pub mod Width
 pub mod Outcomes
 pub mod Fills
+mod Examples

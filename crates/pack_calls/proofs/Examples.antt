@@ -1,0 +1,67 @@
+-- Document 01's row counts P1 to P6 as the host asks for them, on any image: computed from the seven numbers, so that no two of them can be exchanged in code and definition alike.
+-- Assumes nothing.
+use Prim.Native.Nat.{ℕ}
+use mathlib.Core.Path.{_≡_, refl, sym}
+use mathlib.Core.Bool.{Bool, true, false, _&&_}
+use mathlib.Core.List.{List, [], _∷_}
+use lib.Count.{leadingZeros}
+use lib.Dec.{T, eqb, eqb→eq}
+use lib.Ieee.Fits.{and-l, and-r}
+use Rattle.image_reasons.specs.Reasons.{refused}
+use Rattle.calls.specs.Answer.{answer}
+use Rattle.calls.proofs.Calls.{reading-done}
+use Rattle.sections.specs.Counts.{places, lightCount, paletteMatrices, paletteCount, textureCount}
+use Rattle.sections.specs.RowCount as RowCount
+use Rattle.sections.specs.RowCount.{lightingReach, textureReach, paletteReach}
+use Rattle.sections.specs.declared.key.FfVsKey.{FfVsKey}
+use Rattle.pack_calls.specs.Key.{keyOf}
+use Rattle.pack_calls.specs.RowCounts.{ffVsRowCount}
+
+record Case : Type 0 where
+  key : FfVsKey
+  rows : ℕ
+
+abbrev case : FfVsKey → ℕ → Case
+case k n = record { key = k; rows = n }
+
+-- HAS_RHW, LIGHTING_ENABLED, SPECULAR_ENABLE, VERTEX_BLEND_INDEXED, light_active_mask, fog_mode, vertex_blend_count: P1 to P6, a mask with a gap,
+-- and a fog mode, which no row follows from. A flag is set by any number but 0.
+cases : List Case
+cases =
+    case (keyOf 0 0 0 0 0 0 0) 11
+    ∷ case (keyOf 0 1 0 0 0 0 0) 14
+    ∷ case (keyOf 0 2 3 0 0 0 0) 15
+    ∷ case (keyOf 0 1 0 0 1 0 0) 21
+    ∷ case (keyOf 0 255 0 0 0xFF 0 0) 63
+    ∷ case (keyOf 0 0 0 4 0 0 1) 255
+    ∷ case (keyOf 0 0 0 0 0 0 255) 1115
+    ∷ case (keyOf 2 0 0 0 0 0 0) 1
+    ∷ case (keyOf 0 1 0 0 4 0 0) 33
+    ∷ case (keyOf 0 1 0 0 0 255 0) 14
+    ∷ []
+
+abbrev right : Case → Bool
+right c = eqb (RowCount.ffVsRowCount (c .key) 0) (c .rows)
+
+abbrev every : List Case → Bool
+every [] = true
+every (c ∷ cs) = right c && every cs
+
+counts-right : T (every cases)
+unfolding cases RowCount.ffVsRowCount lightingReach textureReach paletteReach lightCount paletteCount paletteMatrices textureCount places leadingZeros
+counts-right = tt
+
+-- what the host is answered, whatever the image and the lent number
+module _ (image : List ℕ) (h : refused image ≡ false) (out : ℕ) where
+  abbrev Counted : List Case → Type 0
+  Counted [] = Unit {0}
+  Counted (c ∷ cs) = (ffVsRowCount image (c .key) out ≡ answer 0 (c .rows)) × Counted cs
+
+  counted : (cs : List Case) → T (every cs) → Counted cs
+  counted [] all = tt
+  counted (c ∷ cs) all =
+      let rows : RowCount.ffVsRowCount (c .key) 0 ≡ c .rows = eqb→eq (RowCount.ffVsRowCount (c .key) 0) (c .rows) (and-l (right c) (every cs) all) in
+      (sym (reading-done _ _ _ _ _ h refl refl (sym rows)), counted cs (and-r (right c) (every cs) all))
+
+  host-counts : Counted cases
+  host-counts = counted cases counts-right
