@@ -27,10 +27,20 @@ use Rattle.refresh.proofs.Parts.{Holds}
 use Rattle.refresh.proofs.Writes.{refused}
 use Rattle.refresh.proofs.Holding.{every-in, written-length, written-outside, written-off, written-on}
 
-pub refused-same : (s : FfState) (k : FfVsKey) (m : List Float) → (refreshAnswer s k (length m) ≡ Accepted → ⊥)
-    → refreshMirror s k m ≡ refreshed (refusal (refreshAnswer s k (length m)) s) m
-unfolding refreshMirror
-refused-same s k m f = sym (refused s k (refreshAnswer s k (length m)) f m)
+-- "Bits stay untaken", and "bits beside one are 0": state and mirror are as found
+module _ (s : FfState) (k : FfVsKey) (m : List Float) (f : refreshAnswer s k (length m) ≡ Accepted → ⊥) where
+  pub refused-same : refreshMirror s k m ≡ refreshed (refusal (refreshAnswer s k (length m)) s) m
+  unfolding refreshMirror
+  refused-same = sym (refused s k (refreshAnswer s k (length m)) f m)
+
+  pub refused-bits : refreshMirror s k m .result .bits ≡ 0
+  refused-bits = ap (λ (o : Outcome). o .result .bits) refused-same
+
+  pub refused-state : refreshMirror s k m .result .state ≡ s
+  refused-state = ap (λ (o : Outcome). o .result .state) refused-same
+
+  pub refused-mirror : refreshMirror s k m .floats ≡ m
+  refused-mirror = ap (λ (o : Outcome). o .floats) refused-same
 
 -- of a count that is a u8 and 256 world matrices
 module _ (s : FfState) (k : FfVsKey) (m : List Float) (byte : k .«vertex_blend_count» < 256) (palette : length (s .«world_palette») ≡ 256)

@@ -1,3 +1,4 @@
 pub mod Parts
 pub mod Outcomes
 pub mod MirrorBytes
+pub mod Laws
