@@ -35,14 +35,14 @@ module _ (image : List ℕ) (k : FfVsKey) (mirror : List ℕ) (out : ℕ) where
     -- "The answer is the bits taken."
     pub bits-told : ffRefresh image k mirror out .out .bits ≡ dirtyWord (stateOf image)
     unfolding ffRefresh takeFfVsDirty
-    bits-told = ap (λ (h : HostRefreshed). h .bits) (new-by-code (callCode (ffRefreshNumber k mirror) 0 image) _ (left image mirror out) is)
+    bits-told = ap (λ (h : HostRefreshed). h .bits) (new-by-code (callCode (ffRefreshNumber k mirror) 0 image) _ _ is)
 
     -- "takes the dirty bits, clears them"
     pub bits-cleared : ffRefresh image k mirror out .out .image ≡ imageBytes (withFfVsDirty (stateOf image) 0)
     unfolding ffRefresh takeFfVsDirty
-    bits-cleared = ap (λ (h : HostRefreshed). h .image) (new-by-code (callCode (ffRefreshNumber k mirror) 0 image) _ (left image mirror out) is)
+    bits-cleared = ap (λ (h : HostRefreshed). h .image) (new-by-code (callCode (ffRefreshNumber k mirror) 0 image) _ _ is)
 
     -- "and writes each named section"
     pub sections-written : ffRefresh image k mirror out .out .mirror ≡ writtenBytes sections (dirtyWord (stateOf image)) (stateOf image) k mirror
     unfolding ffRefresh takeFfVsDirty
-    sections-written = ap (λ (h : HostRefreshed). h .mirror) (new-by-code (callCode (ffRefreshNumber k mirror) 0 image) _ (left image mirror out) is)
+    sections-written = ap (λ (h : HostRefreshed). h .mirror) (new-by-code (callCode (ffRefreshNumber k mirror) 0 image) _ _ is)
