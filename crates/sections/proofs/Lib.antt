@@ -3,3 +3,4 @@ pub mod Bounds
 pub mod Shape
 pub mod Reach
 pub mod Tiles
+pub mod Examples
