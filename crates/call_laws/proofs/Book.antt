@@ -39,7 +39,7 @@ module _ {s : FfState} {a b : AbstractState} (f : Agrees s a) (g : Agrees s b) w
   at-number n h (no-place q k) = never (sym h ∙ k)
 
   same-book : SameBook a b
-  same-book = record { matrix = λ n h. at-number n h (named n); material = sym (f .material) ∙ g .material; lights = sym (f .lights) ∙ g .lights }
+  same-book = record { matrix = λ n h. at-number n h (named n); material = sym (f .material) ∙ g .material; lights = sym (f .lights) ∙ g .lights; highest = sym (f .highest) ∙ g .highest }
 
 module _ (image : List ℕ) where
   module _ (a : IsAccepted image) where

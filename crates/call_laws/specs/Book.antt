@@ -1,4 +1,4 @@
--- Two abstract states that no call tells apart. Document 01's plain book "holds matrices by state number, material, and lights by index, each with an enable".
+-- Two abstract states that no call tells apart. Document 01's plain book "holds matrices by state number, material, and lights by index, each with an enable"; beside them stands the highest palette index.
 use Prim.Native.Nat.{ℕ}
 use mathlib.Core.Path.{_≡_}
 use mathlib.Core.Bool.{true}
@@ -9,3 +9,4 @@ pub record SameBook (a b : AbstractState) : Type 0 where
   pub matrix : (n : ℕ) → known n ≡ true → a .matrix n ≡ b .matrix n
   pub material : a .material ≡ b .material
   pub lights : a .lights ≡ b .lights
+  pub highest : a .highestIndex ≡ b .highestIndex
