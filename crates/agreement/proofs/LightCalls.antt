@@ -9,11 +9,11 @@ use lib.ListN.{getD, set}
 use borrow.Author.Tests.{lt-ltb, le-ltb}
 use Rattle.d3d9_types.specs.Light.{defaultLight, lightFits, defaultLight-fits}
 use Rattle.d3d9_types.specs.declared.light.D3DLIGHT9.{D3DLIGHT9}
-use Rattle.d3d9_model.specs.State.{AbstractState, AbstractLight, withLights}
-use Rattle.d3d9_model.specs.Lights.{lightAt, changedAt, lightSet, lightEnabled}
+use Rattle.d3d9_model.specs.State.{AbstractState, AbstractLight, replacedLights}
+use Rattle.d3d9_model.specs.Lights.{indexedLight, changedAt, lightSet, lightEnabled}
 use Rattle.d3d9_model.specs.Operations.{full, abstractRefusal, abstractChange, abstractStep}
 use Rattle.d3d9_model.specs.Operations as Operations
-use Rattle.light_table.specs.Entry.{zeroEntry, entry}
+use Rattle.light_table.specs.Entry.{zeroEntry, lightEntry}
 use Rattle.ff_state.specs.State.{withOverflowLights, withOverflowCount}
 use Rattle.ff_state.specs.Dirty.{dirtied}
 use Rattle.ff_state.specs.Slots.{setSlot, enableSlot}
@@ -35,7 +35,7 @@ use Rattle.agreement.proofs.Entries.{entries-changed}
 use Rattle.agreement.proofs.Slots.{set-slot-valid, enable-slot-valid}
 use Rattle.agreement.proofs.SlotLights.{set-slot-agrees, enable-slot-agrees}
 use Rattle.agreement.proofs.Overflow.{EntryFits, withEntry, withNewEntry, foundEntry, place-most, entry-used, entry-index, entry-fits, replaced-used, replaced-valid, inserted-is, inserted-valid}
-use Rattle.agreement.proofs.Lights.{Outcome, in-slot, replaced, inserted, refused, outcome, full-is}
+use Rattle.agreement.proofs.Lights.{LightOutcome, in-slot, replaced, inserted, refused, lightOutcome, full-is}
 
 -- ---- what a call is, by its outcome
 
@@ -65,12 +65,12 @@ by-outcome : {s : FfState} → Valid s → (i : ℕ) (t : FfState) (change : Ove
     → (hasRoom s i ≡ false → P s)
     → P (call s i t change made .state)
 unfolding replaceEntry
-by-outcome {s} v i t change made P slot stored absent none = go (outcome v i)
+by-outcome {s} v i t change made P slot stored absent none = go (lightOutcome v i)
   where
     there : (r : LightChanged) → call s i t change made ≡ r → P (r .state) → P (call s i t change made .state)
     there r e = subst (λ (x : LightChanged). P (x .state)) (sym e)
 
-    go : Outcome s i → P (call s i t change made .state)
+    go : LightOutcome s i → P (call s i t change made .state)
     go (in-slot low r) = there (inSlot t) (call-slot s i t change made low) (slot low r)
     go (replaced high h r) = there (replaceEntry s (found s i .at) (change (foundEntry s i))) (call-entry s i t change made high true h) (stored high h r)
     go (inserted high h m r) =
@@ -111,9 +111,9 @@ module _ {s : FfState} (v : Valid s) (i : ℕ) (t : FfState) (change : OverflowL
         ∙ sym (changed-below i change′ (overflowEntry made) (definedFrom (slotDefined s) (slotEntry s) 0 8) (map overflowEntry (used s)) (defined-below (slotDefined s) (slotEntry s) (λ k. refl) i 0 8 high))
         ∙ ap (λ (x : AbstractLight). changedAt i change′ x (stateLights s)) made-alike
 
-    module _ {a : AbstractState} (g : Agrees s a) (slot-agrees : i < 8 → Agrees t (withLights a (changedAt i change′ new (a .lights)))) where
+    module _ {a : AbstractState} (g : Agrees s a) (slot-agrees : i < 8 → Agrees t (replacedLights a (changedAt i change′ new (a .lights)))) where
       abbrev changed : AbstractState
-      changed = withLights a (changedAt i change′ new (a .lights))
+      changed = replacedLights a (changedAt i change′ new (a .lights))
 
       entry-agrees : 8 ≤ i → found s i .stored ≡ true → Agrees (withEntry s i (change (foundEntry s i))) changed
       entry-agrees high h =
@@ -157,44 +157,44 @@ flag-read false = refl
 
 module _ {s : FfState} (v : Valid s) (i : ℕ) (small : i < 0x1_0000_0000) where
   module _ (l : D3DLIGHT9) (f : lightFits l) where
-    set-fits : (e : OverflowLight) → EntryFits e → EntryFits (entry (e .index) (e .enabled) l)
+    set-fits : (e : OverflowLight) → EntryFits e → EntryFits (lightEntry (e .index) (e .enabled) l)
     set-fits e h = record { index = h .index; enabled = h .enabled; light = f }
 
-    new-fits : EntryFits (entry i 0 l)
+    new-fits : EntryFits (lightEntry i 0 l)
     new-fits = record { index = small; enabled = omega arith; light = f }
 
     pub set-light-valid : Valid (setLightAt s i l .state)
     unfolding setLightAt
     set-light-valid =
-        call-valid v i (setSlot s i l) (λ e. entry (e .index) (e .enabled) l) (entry i 0 l)
+        call-valid v i (setSlot s i l) (λ e. lightEntry (e .index) (e .enabled) l) (lightEntry i 0 l)
         (λ low. set-slot-valid v i low l f) (λ e h. h) set-fits refl new-fits
 
     pub set-light-agrees : {a : AbstractState} → Agrees s a → Agrees (setLightAt s i l .state) (abstractStep a (Operations.setLight i l))
     unfolding setLightAt abstractStep abstractRefusal abstractChange lightSet
     set-light-agrees g =
-        call-agrees v i (setSlot s i l) (λ e. entry (e .index) (e .enabled) l) (entry i 0 l)
+        call-agrees v i (setSlot s i l) (λ e. lightEntry (e .index) (e .enabled) l) (lightEntry i 0 l)
         (λ low. set-slot-valid v i low l f) (λ e h. h) set-fits refl new-fits
-        (λ e. lightAt i (e .enabled) l) (lightAt i false l) (λ e h. ap (λ (k : ℕ). lightAt k (not (eqb (e .enabled) 0)) l) h) refl
+        (λ e. indexedLight i (e .enabled) l) (indexedLight i false l) (λ e h. ap (λ (k : ℕ). indexedLight k (not (eqb (e .enabled) 0)) l) h) refl
         g (λ low. set-slot-agrees v i low g l)
 
   module _ (on : Bool) where
-    enable-fits : (e : OverflowLight) → EntryFits e → EntryFits (entry (e .index) (flag on) (e .light))
+    enable-fits : (e : OverflowLight) → EntryFits e → EntryFits (lightEntry (e .index) (flag on) (e .light))
     enable-fits e h = record { index = h .index; enabled = flag-fits on; light = h .light }
 
-    default-fits : EntryFits (entry i (flag on) defaultLight)
+    default-fits : EntryFits (lightEntry i (flag on) defaultLight)
     default-fits = record { index = small; enabled = flag-fits on; light = defaultLight-fits }
 
     pub enable-light-valid : Valid (setLightEnabledAt s i on .state)
     unfolding setLightEnabledAt
     enable-light-valid =
-        call-valid v i (enableSlot s i on) (λ e. entry (e .index) (flag on) (e .light)) (entry i (flag on) defaultLight)
+        call-valid v i (enableSlot s i on) (λ e. lightEntry (e .index) (flag on) (e .light)) (lightEntry i (flag on) defaultLight)
         (λ low. enable-slot-valid v i low on) (λ e h. h) enable-fits refl default-fits
 
     pub enable-light-agrees : {a : AbstractState} → Agrees s a → Agrees (setLightEnabledAt s i on .state) (abstractStep a (Operations.enableLight i on))
     unfolding setLightEnabledAt abstractStep abstractRefusal abstractChange lightEnabled
     enable-light-agrees g =
-        call-agrees v i (enableSlot s i on) (λ e. entry (e .index) (flag on) (e .light)) (entry i (flag on) defaultLight)
+        call-agrees v i (enableSlot s i on) (λ e. lightEntry (e .index) (flag on) (e .light)) (lightEntry i (flag on) defaultLight)
         (λ low. enable-slot-valid v i low on) (λ e h. h) enable-fits refl default-fits
-        (λ e. lightAt i on (e .light)) (lightAt i on defaultLight)
-        (λ e h. ap₂ (λ (k : ℕ) (b : Bool). lightAt k b (e .light)) h (flag-read on)) (ap (λ (b : Bool). lightAt i b defaultLight) (flag-read on))
+        (λ e. indexedLight i on (e .light)) (indexedLight i on defaultLight)
+        (λ e h. ap₂ (λ (k : ℕ) (b : Bool). indexedLight k b (e .light)) h (flag-read on)) (ap (λ (b : Bool). indexedLight i b defaultLight) (flag-read on))
         g (λ low. enable-slot-agrees v i low g on)

@@ -10,7 +10,7 @@ use Rattle.d3d9_model.specs.State.{AbstractState, AbstractLight}
 use Rattle.d3d9_model.specs.Lights.{lookup, isThere, isOn, abstractLight}
 use Rattle.d3d9_model.specs.Reads.{lightReadRefusal}
 use Rattle.words.specs.Bits.{hasBit}
-use Rattle.ff_state.specs.Lights.{found, entryAt, getLightAt, isLightEnabledAt, isLightDefinedAt, lightReadNumber}
+use Rattle.ff_state.specs.Lights.{found, storedEntry, getLightAt, isLightEnabledAt, isLightDefinedAt, lightReadNumber}
 use Rattle.ff_state.specs.Valid.{Valid}
 use Rattle.ff_state.specs.declared.state.FfState.{FfState}
 use Rattle.agreement.specs.Agrees.{Agrees, slotDefined, slotEntry, overflowEntry, stateLights}
@@ -44,7 +44,7 @@ module _ {s : FfState} {a : AbstractState} (v : Valid s) (g : Agrees s a) (i : �
   -- a read that is F of the slot's light where the slot is defined, and of the entry's where the index is stored
   read-is : {A : Type 0} (F : Option AbstractLight → A) (x y : A)
       → (i < 8 → x ≡ cond (slotDefined s i) (F (some (slotEntry s i))) (F none))
-      → (y ≡ cond (found s i .stored) (F (some (overflowEntry (entryAt s (found s i .at))))) (F none))
+      → (y ≡ cond (found s i .stored) (F (some (overflowEntry (storedEntry s (found s i .at))))) (F none))
       → cond (ltb i 8) x y ≡ F (abstractLight a i)
   unfolding abstractLight
   read-is {A} F x y low high =
@@ -52,7 +52,7 @@ module _ {s : FfState} {a : AbstractState} (v : Valid s) (g : Agrees s a) (i : �
       (λ (t : ltb i 8 ≡ true).
       let l = ltb-true i 8 t in
       low l ∙ read-if F (slotDefined s i) (slotEntry s i) ∙ ap F (sym (lookup-slot v i l)))
-      (λ (t : ltb i 8 ≡ false). high ∙ read-if F (found s i .stored) (overflowEntry (entryAt s (found s i .at))) ∙ ap F (sym (lookup-overflow v i (ltb-false i 8 t))))
+      (λ (t : ltb i 8 ≡ false). high ∙ read-if F (found s i .stored) (overflowEntry (storedEntry s (found s i .at))) ∙ ap F (sym (lookup-overflow v i (ltb-false i 8 t))))
       ∙ ap (λ ls. F (lookup i ls)) (g .lights)
 
   pub light-read : getLightAt s i ≡ lightRead (abstractLight a i)
@@ -68,7 +68,7 @@ module _ {s : FfState} {a : AbstractState} (v : Valid s) (g : Agrees s a) (i : �
   enabled-read =
       read-is isOn _ _
       (λ low. on-if (slotDefined s i) (hasBit (s .«light_enabled») i) (off-undefined v i low))
-      (and-if (found s i .stored) (not (eqb (entryAt s (found s i .at) .enabled) 0)))
+      (and-if (found s i .stored) (not (eqb (storedEntry s (found s i .at) .enabled) 0)))
 
   pub defined-read : isLightDefinedAt s i ≡ isThere (abstractLight a i)
   unfolding isLightDefinedAt isThere

@@ -13,7 +13,7 @@ use Rattle.light_table.specs.Entry.{zeroEntry}
 use Rattle.ff_state.specs.State.{withOverflowLights, withOverflowCount}
 use Rattle.light_table.specs.Overflow.{usedCount, findEntry, ascending, insertedAt}
 use Rattle.ff_state.specs.Overflow.{used}
-use Rattle.ff_state.specs.Lights.{found, entryAt}
+use Rattle.ff_state.specs.Lights.{found, storedEntry}
 use Rattle.ff_state.specs.Valid.{Valid, OverflowValid}
 use Rattle.ff_state.specs.declared.state.FfState.{FfState}
 use Rattle.light_table.specs.declared.entry.OverflowLight.{OverflowLight}
@@ -34,7 +34,7 @@ abbrev pub withNewEntry : FfState → ℕ → OverflowLight → FfState
 withNewEntry s i e = withOverflowCount (withOverflowLights s (insertedAt (found s i .at) e (s .«overflow_lights»))) (usedCount (s .«overflow_count») + 1)
 
 abbrev pub foundEntry : FfState → ℕ → OverflowLight
-foundEntry s i = entryAt s (found s i .at)
+foundEntry s i = storedEntry s (found s i .at)
 
 module _ {s : FfState} (v : Valid s) where
   -- a valid state, with another table

@@ -15,7 +15,7 @@ use Rattle.ff_state.specs.declared.state.FfState.{FfState}
 use Rattle.ff_state.specs.declared.transforms.Place.{Place}
 use Rattle.ff_state.specs.declared.transforms.Slot.{Slot}
 use Rattle.ff_state.specs.declared.transforms.Slot.the-variants.{At, Unknown}
-use Rattle.ff_state.proofs.Room.{refusal, set-answer, set-refused, enable-answer, enable-refused}
+use Rattle.ff_state.proofs.Room.{roomRefusal, set-answer, set-refused, enable-answer, enable-refused}
 use Rattle.ff_state.specs.Operate.{operate}
 
 -- an answer other than 0
@@ -27,7 +27,7 @@ unfolding Transforms.changeAt Transforms.transformNumber
 transform-same s (At p) f h = absurd (h refl)
 transform-same s Unknown f h = refl
 
-light-same : (s : FfState) (i : ℕ) (r : LightChanged) → lightNumber (r .answer) ≡ cond (hasRoom s i) 0 3 → (hasRoom s i ≡ false → r ≡ refusal s) → Not0 (lightNumber (r .answer)) → r .state ≡ s
+light-same : (s : FfState) (i : ℕ) (r : LightChanged) → lightNumber (r .answer) ≡ cond (hasRoom s i) 0 3 → (hasRoom s i ≡ false → r ≡ roomRefusal s) → Not0 (lightNumber (r .answer)) → r .state ≡ s
 light-same s i r answer unchanged h = by-cases (hasRoom s i) refl
   where
     by-cases : (t : Bool) → hasRoom s i ≡ t → r .state ≡ s

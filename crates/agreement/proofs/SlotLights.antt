@@ -10,8 +10,8 @@ use borrow.Author.Tests.{eqb-true, eq-eqb, ne-eqb}
 use Rattle.lemmas.proofs.Branch.{branch}
 use Rattle.d3d9_types.specs.Light.{defaultLight}
 use Rattle.d3d9_types.specs.declared.light.D3DLIGHT9.{D3DLIGHT9}
-use Rattle.d3d9_model.specs.State.{AbstractState, AbstractLight, withLights}
-use Rattle.d3d9_model.specs.Lights.{lightAt, changedAt, lightSet, lightEnabled}
+use Rattle.d3d9_model.specs.State.{AbstractState, AbstractLight, replacedLights}
+use Rattle.d3d9_model.specs.Lights.{indexedLight, changedAt, lightSet, lightEnabled}
 use Rattle.words.specs.Bits.{hasBit, withBit}
 use Rattle.ff_state.specs.State.{withLightEnabled}
 use Rattle.ff_state.specs.Slots.{setSlot, defineSlot, enableSlot}
@@ -42,7 +42,7 @@ module _ {s : FfState} (v : Valid s) (u : FfState) (i : ℕ) (low : i < 8) (on :
     (enabled : (k : ℕ) → hasBit (u .«light_enabled») k ≡ cond (eqb i k) on (hasBit (s .«light_enabled») k))
     (light : (k : ℕ) → slotLight u k ≡ cond (eqb i k) l (slotLight s k))
     (others : used u ≡ used s) where
-  slot-changed : (change : AbstractLight → AbstractLight) (new : AbstractLight) → lightAt i on l ≡ cond (slotDefined s i) (change (slotEntry s i)) new
+  slot-changed : (change : AbstractLight → AbstractLight) (new : AbstractLight) → indexedLight i on l ≡ cond (slotDefined s i) (change (slotEntry s i)) new
       → stateLights u ≡ changedAt i change new (stateLights s)
   unfolding stateLights
   slot-changed change new is =
@@ -50,9 +50,9 @@ module _ {s : FfState} (v : Valid s) (u : FfState) (i : ℕ) (low : i < 8) (on :
       (sym
       (changed-defined (slotDefined s) (slotDefined u) (slotEntry s) (slotEntry u) (λ k. refl) i change new
       (elsewhere (slotDefined u) (slotDefined s) i true defined)
-      (λ k ne. ap₂ (lightAt k) (elsewhere (hasBit (u .«light_enabled»)) (hasBit (s .«light_enabled»)) i on enabled k ne) (elsewhere (slotLight u) (slotLight s) i l light k ne))
+      (λ k ne. ap₂ (indexedLight k) (elsewhere (hasBit (u .«light_enabled»)) (hasBit (s .«light_enabled»)) i on enabled k ne) (elsewhere (slotLight u) (slotLight s) i l light k ne))
       (there (slotDefined u) (slotDefined s) i true defined)
-      (ap₂ (lightAt i) (there (hasBit (u .«light_enabled»)) (hasBit (s .«light_enabled»)) i on enabled) (there (slotLight u) (slotLight s) i l light) ∙ is)
+      (ap₂ (indexedLight i) (there (hasBit (u .«light_enabled»)) (hasBit (s .«light_enabled»)) i on enabled) (there (slotLight u) (slotLight s) i l light) ∙ is)
       (map overflowEntry (used s)) (entries-above i 8 (used s) (v .overflow .sorted) low)
       0 8 zero-le low))
 
@@ -76,10 +76,10 @@ module _ {s : FfState} (v : Valid s) (i : ℕ) (low : i < 8) where
       (given-at (hasBit (s .«light_enabled»)) i (hasBit (s .«light_enabled») i) refl)
       (getD-set (s .lights) i l defaultLight inside)
       refl
-      (λ e. lightAt i (e .enabled) l) (lightAt i false l)
-      (branch (λ (x : AbstractLight). lightAt i (hasBit (s .«light_enabled») i) l ≡ x) (hasBit (s .«light_defined_mask») i) _ _
+      (λ e. indexedLight i (e .enabled) l) (indexedLight i false l)
+      (branch (λ (x : AbstractLight). indexedLight i (hasBit (s .«light_enabled») i) l ≡ x) (hasBit (s .«light_defined_mask») i) _ _
       (λ t. refl)
-      (λ (t : hasBit (s .«light_defined_mask») i ≡ false). ap (λ (b : Bool). lightAt i b l) (off-undefined t)))
+      (λ (t : hasBit (s .«light_defined_mask») i ≡ false). ap (λ (b : Bool). indexedLight i b l) (off-undefined t)))
 
   defined-lights : (on : Bool) → hasBit (s .«light_defined_mask») i ≡ true → stateLights (withLightEnabled s (withBit (s .«light_enabled») i on)) ≡ lightEnabled i on (stateLights s)
   unfolding lightEnabled
@@ -89,7 +89,7 @@ module _ {s : FfState} (v : Valid s) (i : ℕ) (low : i < 8) where
       (λ k. has-with-bit (s .«light_enabled») i k on)
       (given-at (slotLight s) i (slotLight s i) refl)
       refl
-      (λ x. lightAt i on (x .light)) (lightAt i on defaultLight) (rw e)
+      (λ x. indexedLight i on (x .light)) (indexedLight i on defaultLight) (rw e)
 
   undefined-lights : (on : Bool) → hasBit (s .«light_defined_mask») i ≡ false
       → stateLights (withLightEnabled (setSlot s i defaultLight) (withBit (s .«light_enabled») i on)) ≡ lightEnabled i on (stateLights s)
@@ -100,17 +100,17 @@ module _ {s : FfState} (v : Valid s) (i : ℕ) (low : i < 8) where
       (λ k. has-with-bit (s .«light_enabled») i k on)
       (getD-set (s .lights) i defaultLight defaultLight inside)
       refl
-      (λ x. lightAt i on (x .light)) (lightAt i on defaultLight) (rw e)
+      (λ x. indexedLight i on (x .light)) (indexedLight i on defaultLight) (rw e)
 
   module _ {a : AbstractState} (g : Agrees s a) where
-    pub set-slot-agrees : (l : D3DLIGHT9) → Agrees (setSlot s i l) (withLights a (lightSet i l (a .lights)))
+    pub set-slot-agrees : (l : D3DLIGHT9) → Agrees (setSlot s i l) (replacedLights a (lightSet i l (a .lights)))
     unfolding setSlot
     set-slot-agrees l = record { matrices = g .matrices; material = g .material; lights = set-slot-lights l ∙ ap (lightSet i l) (g .lights); highest = g .highest }
 
-    pub enable-slot-agrees : (on : Bool) → Agrees (enableSlot s i on) (withLights a (lightEnabled i on (a .lights)))
+    pub enable-slot-agrees : (on : Bool) → Agrees (enableSlot s i on) (replacedLights a (lightEnabled i on (a .lights)))
     unfolding enableSlot defineSlot setSlot
     enable-slot-agrees on =
-        branch (λ (t : FfState). Agrees (withLightEnabled t (withBit (t .«light_enabled») i on)) (withLights a (lightEnabled i on (a .lights))))
+        branch (λ (t : FfState). Agrees (withLightEnabled t (withBit (t .«light_enabled») i on)) (replacedLights a (lightEnabled i on (a .lights))))
         (hasBit (s .«light_defined_mask») i) s (setSlot s i defaultLight)
         (λ e. record { matrices = g .matrices; material = g .material; lights = defined-lights on e ∙ ap (lightEnabled i on) (g .lights); highest = g .highest })
         (λ e. record { matrices = g .matrices; material = g .material; lights = undefined-lights on e ∙ ap (lightEnabled i on) (g .lights); highest = g .highest })

@@ -13,12 +13,12 @@ use Rattle.d3d9_types.specs.Matrix.{matrixFits}
 use Rattle.d3d9_types.specs.declared.matrix.D3DMATRIX.{D3DMATRIX}
 use Rattle.matrix.specs.Product.{matMul}
 use Rattle.matrix.proofs.Fits.{matMul-fits}
-use Rattle.d3d9_model.specs.State.{AbstractState, raised, withMatrix}
+use Rattle.d3d9_model.specs.State.{AbstractState, raised, replacedMatrix}
 use Rattle.d3d9_model.specs.Operations.{known, abstractRefusal, abstractChange, abstractStep}
 use Rattle.d3d9_model.specs.Operations as Operations
 use Rattle.ff_state.specs.State.{noMatrix, withView, withProjection, withWorldPalette, withWorldPaletteHighWater, withTextureTransforms}
 use Rattle.sections.specs.Sections.{bitsOf, allBits}
-use Rattle.ff_state.specs.Transforms.{slotOf, InRange, placeSections, placeBits, matrixAt, placed, changeAt, setTransform, multiplyTransform, readAt, transformOf, transformNumber}
+use Rattle.ff_state.specs.Transforms.{slotOf, InRange, placeSections, placeBits, placeMatrix, placed, changeAt, setTransform, multiplyTransform, readAt, transformOf, transformNumber}
 use Rattle.ff_state.specs.Valid.{Valid}
 use Rattle.ff_state.specs.declared.state.FfState.{FfState}
 use Rattle.sections.specs.declared.sections.Section.{Section}
@@ -80,18 +80,18 @@ place-bits (Palette i) = branch (λ (σs : List Section). bitsOf σs ≤ allBits
 
 module _ {s : FfState} {a : AbstractState} (v : Valid s) (g : Agrees s a) (m : D3DMATRIX) where
   -- the abstract matrix of a number, after one is set
-  hit : (k n : ℕ) → k ≡ n → withMatrix a n m .matrix k ≡ m
+  hit : (k n : ℕ) → k ≡ n → replacedMatrix a n m .matrix k ≡ m
   hit k n e = rw (eq-eqb k n e)
 
-  missed : (k n : ℕ) → (k ≡ n → ⊥) → withMatrix a n m .matrix k ≡ a .matrix k
+  missed : (k n : ℕ) → (k ≡ n → ⊥) → replacedMatrix a n m .matrix k ≡ a .matrix k
   missed k n e = rw (ne-eqb k n e)
 
   -- the numbers of an array that begins at b
   stored : (ms : List D3DMATRIX) (b size i n : ℕ) → n ≡ b + i → i < size → length ms ≡ size → ((j : ℕ) → j < size → getD ms j noMatrix ≡ a .matrix (b + j))
-      → (j : ℕ) → j < size → getD (set ms i m) j noMatrix ≡ withMatrix a n m .matrix (b + j)
+      → (j : ℕ) → j < size → getD (set ms i m) j noMatrix ≡ replacedMatrix a n m .matrix (b + j)
   stored ms b size i n e h l old j k =
       getD-set ms i m noMatrix (omega arith) j
-      ∙ branch (λ (x : D3DMATRIX). x ≡ withMatrix a n m .matrix (b + j)) (eqb i j) m (getD ms j noMatrix)
+      ∙ branch (λ (x : D3DMATRIX). x ≡ replacedMatrix a n m .matrix (b + j)) (eqb i j) m (getD ms j noMatrix)
       (λ (t : eqb i j ≡ true). sym (hit (b + j) n (omega (arith, eqb-true i j t))))
       (λ (t : eqb i j ≡ false). old j k ∙ sym (missed (b + j) n (λ q. eqb-false i j t (omega arith))))
 
@@ -106,7 +106,7 @@ module _ {s : FfState} {a : AbstractState} (v : Valid s) (g : Agrees s a) (m : D
       let j : i ≡ n - 256 = omega arith in
       rw (le-leb 256 n (omega arith), le-leb n 511 (omega arith)) (ap₂ max (g .highest) j)
 
-  placed-agrees : (p : Place) (n : ℕ) → n ≡ number p → InRange p → Agrees (placed s p m) (withMatrix a n m)
+  placed-agrees : (p : Place) (n : ℕ) → n ≡ number p → InRange p → Agrees (placed s p m) (replacedMatrix a n m)
   unfolding placed stateLights
   placed-agrees View n e h =
       record {
@@ -183,11 +183,11 @@ module _ {s : FfState} (v : Valid s) (n : ℕ) where
 
     -- the step of an operation that is refused by the number alone
     change-agrees : {a : AbstractState} (m : D3DMATRIX) → ((p : Place) → InRange p → n ≡ number p → f p ≡ m) → Agrees s a
-        → Agrees (changeAt s (slotOf n) f .state) (cond (eqb (cond (known n) 0 1) 0) (withMatrix a n m) a)
+        → Agrees (changeAt s (slotOf n) f .state) (cond (eqb (cond (known n) 0 1) 0) (replacedMatrix a n m) a)
     unfolding changeAt
     change-agrees {a} m same g = go (named n)
       where
-        go : Named n → Agrees (changeAt s (slotOf n) f .state) (cond (eqb (cond (known n) 0 1) 0) (withMatrix a n m) a)
+        go : Named n → Agrees (changeAt s (slotOf n) f .state) (cond (eqb (cond (known n) 0 1) 0) (replacedMatrix a n m) a)
         go (place p h e q k) = rw (q, k, same p h e) (dirtied-agrees (placeBits p) (placed-agrees v g m p n e h))
         go (no-place q k) = rw (q, k) g
 
@@ -206,14 +206,14 @@ module _ {s : FfState} (v : Valid s) (n : ℕ) where
 
     pub multiply-number : transformNumber (multiplyTransform s n m .answer) ≡ cond (known n) 0 1
     unfolding multiplyTransform
-    multiply-number = number-is (λ p. matMul (matrixAt s p) m)
+    multiply-number = number-is (λ p. matMul (placeMatrix s p) m)
 
     pub multiply-valid : Valid (multiplyTransform s n m .state)
     unfolding multiplyTransform
-    multiply-valid = change-valid (λ p. matMul (matrixAt s p) m) (λ p. matMul-fits (matrixAt s p) m)
+    multiply-valid = change-valid (λ p. matMul (placeMatrix s p) m) (λ p. matMul-fits (placeMatrix s p) m)
 
-matrix-at : {s : FfState} {a : AbstractState} → Agrees s a → (p : Place) → InRange p → matrixAt s p ≡ a .matrix (number p)
-unfolding matrixAt
+matrix-at : {s : FfState} {a : AbstractState} → Agrees s a → (p : Place) → InRange p → placeMatrix s p ≡ a .matrix (number p)
+unfolding placeMatrix
 matrix-at g View h = g .matrices .view
 matrix-at g Projection h = g .matrices .projection
 matrix-at g (Texture i) h = g .matrices .texture i h
@@ -223,7 +223,7 @@ module _ {s : FfState} {a : AbstractState} (v : Valid s) (g : Agrees s a) (n : �
   pub multiply-agrees : (m : D3DMATRIX) → Agrees (multiplyTransform s n m .state) (abstractStep a (Operations.multiplyTransform n m))
   unfolding multiplyTransform abstractStep abstractRefusal abstractChange
   multiply-agrees m =
-      change-agrees v n (λ p. matMul (matrixAt s p) m) (matMul (a .matrix n) m)
+      change-agrees v n (λ p. matMul (placeMatrix s p) m) (matMul (a .matrix n) m)
       (λ p h e. ap (λ (x : D3DMATRIX). matMul x m) (matrix-at g p h ∙ ap (a .matrix) (sym e)))
       g
 

@@ -7,7 +7,7 @@ use lib.Dec.{eqb}
 use lib.ListN.{getD}
 use Rattle.d3d9_types.specs.declared.matrix.D3DMATRIX.{D3DMATRIX}
 use Rattle.d3d9_model.specs.State.{AbstractState, AbstractLight}
-use Rattle.d3d9_model.specs.Lights.{lightAt}
+use Rattle.d3d9_model.specs.Lights.{indexedLight}
 use Rattle.ff_state.specs.State.{noMatrix}
 use Rattle.words.specs.Bits.{hasBit}
 use Rattle.ff_state.specs.Overflow.{used}
@@ -24,10 +24,10 @@ abbrev pub slotDefined : FfState → ℕ → Bool
 slotDefined s i = hasBit (s .«light_defined_mask») i
 
 abbrev pub slotEntry : FfState → ℕ → AbstractLight
-slotEntry s i = lightAt i (hasBit (s .«light_enabled») i) (slotLight s i)
+slotEntry s i = indexedLight i (hasBit (s .«light_enabled») i) (slotLight s i)
 
 abbrev pub overflowEntry : OverflowLight → AbstractLight
-overflowEntry e = lightAt (e .index) (not (eqb (e .enabled) 0)) (e .light)
+overflowEntry e = indexedLight (e .index) (not (eqb (e .enabled) 0)) (e .light)
 
 -- the lights of a state, by ascending index
 unfoldable pub stateLights : FfState → List AbstractLight

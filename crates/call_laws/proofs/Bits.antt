@@ -22,13 +22,13 @@ use Rattle.image_laws.proofs.ReadWritten.{read-written}
 use Rattle.image_laws.proofs.ValidAccepted.{valid-accepted}
 use Rattle.image_agreement.proofs.ImageAgrees.{image-agrees}
 use Rattle.calls.specs.Answer.{Answer, answer}
-use Rattle.calls.specs.Bits.{ImageAndNumber, both, ffTakeFfVsDirty}
+use Rattle.calls.specs.Bits.{ImageAndNumber, imageAndNumber, ffTakeFfVsDirty}
 use Rattle.calls.specs.Call.{none}
 use Rattle.calls.proofs.Calls.{reading-nine, reading-done}
 
 module _ (image : List ℕ) (out : ℕ) where
-  pub take-refused : refused image ≡ true → ffTakeFfVsDirty image out ≡ answer 9 (both image out)
-  take-refused h = sym (reading-nine none _ 0 image (both image out) h)
+  pub take-refused : refused image ≡ true → ffTakeFfVsDirty image out ≡ answer 9 (imageAndNumber image out)
+  take-refused h = sym (reading-nine none _ 0 image (imageAndNumber image out) h)
 
   module _ (a : IsAccepted image) where
     abbrev left : List ℕ
@@ -37,8 +37,8 @@ module _ (image : List ℕ) (out : ℕ) where
     valid : Valid (takeFfVsDirty (stateOf image) .state)
     valid = taken-valid (accepted-valid image (a .each) (a .taken))
 
-    is : ffTakeFfVsDirty image out ≡ answer 0 (both (imageBytes (takeFfVsDirty (stateOf image) .state)) (takeFfVsDirty (stateOf image) .bits))
-    is = sym (reading-done none _ 0 image (both image out) (a .taken) refl refl refl)
+    is : ffTakeFfVsDirty image out ≡ answer 0 (imageAndNumber (imageBytes (takeFfVsDirty (stateOf image) .state)) (takeFfVsDirty (stateOf image) .bits))
+    is = sym (reading-done none _ 0 image (imageAndNumber image out) (a .taken) refl refl refl)
 
     left-is : left ≡ imageBytes (takeFfVsDirty (stateOf image) .state)
     left-is = ap (λ (r : Answer ImageAndNumber). r .out .image) is

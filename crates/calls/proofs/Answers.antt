@@ -49,6 +49,17 @@ unfolding answered
 answered-either zero new out = inl (refl, refl)
 answered-either (suc n) new out = inr ((λ (e : suc n ≡ 0). absurd (omega arith)), refl)
 
+-- the same by the code
+pub new-by-code : {A : Type 0} (n : ℕ) (new old : A) → answered n new old .code ≡ 0 → answered n new old .out ≡ new
+unfolding answered
+new-by-code zero new old e = refl
+new-by-code (suc n) new old e = absurd (omega arith)
+
+pub old-by-code : {A : Type 0} (n : ℕ) (new old : A) → (answered n new old .code ≡ 0 → ⊥) → answered n new old .out ≡ old
+unfolding answered
+old-by-code zero new old f = absurd (f refl)
+old-by-code (suc n) new old f = refl
+
 pub next-zero : (n : ℕ) → orNext n 0 ≡ n
 unfolding orNext
 next-zero zero = refl

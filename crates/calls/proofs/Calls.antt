@@ -14,7 +14,7 @@ use Rattle.image_reasons.specs.Reasons.{refused}
 use Rattle.image_reasons.proofs.Accepted as Accepted
 use Rattle.image.specs.Format.{imageBytes}
 use Rattle.image.specs.Read.{stateOf, readNumber}
-use Rattle.image.specs.Write.{Outcome, outcome, writeImage, writeNumber}
+use Rattle.image.specs.Write.{WriteOutcome, writeOutcome, writeImage, writeNumber}
 use Rattle.image.specs.declared.write.WriteAnswer.{WriteAnswer}
 use Rattle.image.specs.declared.write.WriteAnswer.the-variants.{Written}
 use Rattle.calls.specs.Answer.{answer, orNext}
@@ -30,17 +30,17 @@ image-long image h = Accepted.accepted image h .long
 pub image-fits : (image : List ℕ) → refused image ≡ false → imageLength ≤ length image
 image-fits image h = omega (arith, image-long image h)
 
-accepts : (s : FfState) (image : List ℕ) → length image ≡ imageLength → writeImage s image ≡ outcome Written (imageBytes s)
+accepts : (s : FfState) (image : List ℕ) → length image ≡ imageLength → writeImage s image ≡ writeOutcome Written (imageBytes s)
 unfolding writeImage
 accepts s image len = rw (eq-eqb (length image) imageLength len)
 
 -- what a write over an image leaves
 pub written : {a : WriteAnswer} {last : List ℕ} (s : FfState) (image : List ℕ) → length image ≡ imageLength
-    → outcome a last ≡ writeImage s image → last ≡ imageBytes s
-written s image len e = ap (λ (o : Outcome). o .bytes) (e ∙ accepts s image len)
+    → writeOutcome a last ≡ writeImage s image → last ≡ imageBytes s
+written s image len e = ap (λ (o : WriteOutcome). o .bytes) (e ∙ accepts s image len)
 
 -- what a write of the fresh state answers
-pub fresh-written : (image : List ℕ) {s : FfState} {a : WriteAnswer} {last : List ℕ} {n : ℕ} → s ≡ freshState → outcome a last ≡ writeImage s image → writeNumber a ≡ n
+pub fresh-written : (image : List ℕ) {s : FfState} {a : WriteAnswer} {last : List ℕ} {n : ℕ} → s ≡ freshState → writeOutcome a last ≡ writeImage s image → writeNumber a ≡ n
     → answer n last ≡ ffImageFresh image
 unfolding ffImageFresh
 fresh-written image {last = last} fresh e number =

@@ -18,9 +18,9 @@ pub record ImageAndNumber : Type 0 where
   pub image : List ℕ
   pub number : ℕ
 
-abbrev pub both : List ℕ → ℕ → ImageAndNumber
-both image n = record { image = image; number = n }
+abbrev pub imageAndNumber : List ℕ → ℕ → ImageAndNumber
+imageAndNumber image n = record { image = image; number = n }
 
 abbrev pub ffTakeFfVsDirty : List ℕ → ℕ → Answer ImageAndNumber
 ffTakeFfVsDirty image out =
-    reading none (λ s. both (imageBytes (takeFfVsDirty s .state)) (takeFfVsDirty s .bits)) 0 image (both image out)
+    reading none (λ s. imageAndNumber (imageBytes (takeFfVsDirty s .state)) (takeFfVsDirty s .bits)) 0 image (imageAndNumber image out)

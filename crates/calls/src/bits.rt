@@ -1,7 +1,7 @@
 // Calls on the dirty bits. A mark above 63 is refused 7.
 ghost use mathlib.Core.Path.{_≡_};
 ghost use Rattle.calls.specs.Answer.{answer};
-ghost use Rattle.calls.specs.Bits.{both, ffMarkFfVsDirty, ffTakeFfVsDirty};
+ghost use Rattle.calls.specs.Bits.{imageAndNumber, ffMarkFfVsDirty, ffTakeFfVsDirty};
 use crate::images::put_state;
 use ff_state::MarkAnswer;
 use image::state_of;
@@ -24,7 +24,7 @@ pub fn mark_ff_vs_dirty(image: &mut [u8], bits: u32) -> u32
 }
 
 pub fn take_ff_vs_dirty(image: &mut [u8], out: &mut u32) -> u32
-    ensures { λ r. ⌜ answer r (both (now (image .exit)) (now (out .exit))) ≡ ffTakeFfVsDirty (now (image .entry)) (now (out .entry)) ⌝ }
+    ensures { λ r. ⌜ answer r (imageAndNumber (now (image .exit)) (now (out .exit))) ≡ ffTakeFfVsDirty (now (image .entry)) (now (out .entry)) ⌝ }
 {
     if image_refused(image) {
         return 9;

@@ -11,8 +11,8 @@ use Rattle.d3d9_types.specs.declared.light.D3DLIGHT9.{D3DLIGHT9}
 use Rattle.matrix.specs.Product.{matMul}
 use Rattle.sections.specs.Sections.{sections}
 use Rattle.words.specs.Bits.{hasBit}
-use Rattle.d3d9_model.specs.State.{AbstractState, AbstractLight, freshAbstract, raised, withLights}
-use Rattle.d3d9_model.specs.Lights.{lightAt, lookup, isThere, isOn, changedAt, lightSet, lightEnabled, countBeyond, lights?, activeOf, abstractLight, abstractActive}
+use Rattle.d3d9_model.specs.State.{AbstractState, AbstractLight, freshAbstract, raised, replacedLights}
+use Rattle.d3d9_model.specs.Lights.{indexedLight, lookup, isThere, isOn, changedAt, lightSet, lightEnabled, countBeyond, lights?, activeOf, abstractLight, abstractActive}
 use Rattle.d3d9_model.specs.Operations.{Operation, setTransform, multiplyTransform, setMaterial, setLight, enableLight, mark, known, full, abstractRefusal, abstractChange, abstractStep}
 use Rattle.d3d9_model.specs.Marks.{transformMarks, among, marksSection}
 use Rattle.d3d9_model.specs.Active.{compacted, bitsNumber, compactedMask, activeKind, rawMask, wordOf, abstractLightInputs}
@@ -83,20 +83,20 @@ unfolding freshAbstract abstractStep abstractRefusal abstractChange full lookup 
 room l = (refl, refl, refl)
 
 module _ (l k : D3DLIGHT9) where
-  set-then-enabled : lightsAfter (setLight 9 l ∷ enableLight 9 true ∷ []) ≡ lightAt 9 true l ∷ []
+  set-then-enabled : lightsAfter (setLight 9 l ∷ enableLight 9 true ∷ []) ≡ indexedLight 9 true l ∷ []
   unfolding freshAbstract abstractStep abstractRefusal abstractChange full lookup isThere countBeyond lightSet lightEnabled changedAt
   set-then-enabled = refl
 
-  ascending : lightsAfter (setLight 9 l ∷ setLight 8 k ∷ []) ≡ lightAt 8 false k ∷ lightAt 9 false l ∷ []
+  ascending : lightsAfter (setLight 9 l ∷ setLight 8 k ∷ []) ≡ indexedLight 8 false k ∷ indexedLight 9 false l ∷ []
   unfolding freshAbstract abstractStep abstractRefusal abstractChange full lookup isThere countBeyond lightSet lightEnabled changedAt
   ascending = refl
 
-  setting-keeps-the-enable : lightsAfter (enableLight 3 true ∷ setLight 3 l ∷ setLight 3 k ∷ []) ≡ lightAt 3 true k ∷ []
+  setting-keeps-the-enable : lightsAfter (enableLight 3 true ∷ setLight 3 l ∷ setLight 3 k ∷ []) ≡ indexedLight 3 true k ∷ []
   unfolding freshAbstract abstractStep abstractRefusal abstractChange full lookup isThere countBeyond lightSet lightEnabled changedAt
   setting-keeps-the-enable = refl
 
 -- disabling makes the default light too
-made : lightsAfter (enableLight 70 false ∷ enableLight 2 true ∷ []) ≡ lightAt 2 true defaultLight ∷ lightAt 70 false defaultLight ∷ []
+made : lightsAfter (enableLight 70 false ∷ enableLight 2 true ∷ []) ≡ indexedLight 2 true defaultLight ∷ indexedLight 70 false defaultLight ∷ []
 unfolding freshAbstract abstractStep abstractRefusal abstractChange full lookup isThere countBeyond lightSet lightEnabled changedAt
 made = refl
 
@@ -121,7 +121,7 @@ typed t =
 
 -- of these the second is off, and two have types that light nothing
 abbrev five : AbstractState
-five = withLights freshAbstract (lightAt 0 true (typed 3) ∷ lightAt 1 false (typed 1) ∷ lightAt 5 true (typed 4) ∷ lightAt 9 true (typed 1) ∷ lightAt 12 true (typed 0) ∷ [])
+five = replacedLights freshAbstract (indexedLight 0 true (typed 3) ∷ indexedLight 1 false (typed 1) ∷ indexedLight 5 true (typed 4) ∷ indexedLight 9 true (typed 1) ∷ indexedLight 12 true (typed 0) ∷ [])
 
 active : abstractActive five ≡ typed 3 ∷ typed 1 ∷ []
 unfolding abstractActive activeOf lights?
@@ -183,9 +183,9 @@ palette-used m = (refl, refl, refl, refl)
 
 abbrev nine : AbstractState
 nine =
-    withLights freshAbstract
-    (lightAt 1 true (typed 1) ∷ lightAt 2 true (typed 2) ∷ lightAt 3 false (typed 3) ∷ lightAt 4 true (typed 1) ∷ lightAt 5 true (typed 3) ∷ lightAt 6 true (typed 4) ∷ lightAt 7 true (typed 1)
-    ∷ lightAt 9 true (typed 2) ∷ lightAt 10 true (typed 1) ∷ lightAt 11 true (typed 3) ∷ lightAt 12 true (typed 2) ∷ [])
+    replacedLights freshAbstract
+    (indexedLight 1 true (typed 1) ∷ indexedLight 2 true (typed 2) ∷ indexedLight 3 false (typed 3) ∷ indexedLight 4 true (typed 1) ∷ indexedLight 5 true (typed 3) ∷ indexedLight 6 true (typed 4) ∷ indexedLight 7 true (typed 1)
+    ∷ indexedLight 9 true (typed 2) ∷ indexedLight 10 true (typed 1) ∷ indexedLight 11 true (typed 3) ∷ indexedLight 12 true (typed 2) ∷ [])
 
 eight-at-most : compacted nine ≡ typed 1 ∷ typed 2 ∷ typed 1 ∷ typed 3 ∷ typed 1 ∷ typed 2 ∷ typed 1 ∷ typed 3 ∷ []
 unfolding compacted abstractActive activeOf lights?
@@ -197,10 +197,10 @@ nine-inputs = refl
 
 -- P7, with a directional and a spot light beside them that are off
 abbrev two : AbstractState
-two = withLights freshAbstract (lightAt 0 true (typed 3) ∷ lightAt 3 true (typed 2) ∷ lightAt 4 false (typed 3) ∷ lightAt 5 false (typed 2) ∷ [])
+two = replacedLights freshAbstract (indexedLight 0 true (typed 3) ∷ indexedLight 3 true (typed 2) ∷ indexedLight 4 false (typed 3) ∷ indexedLight 5 false (typed 2) ∷ [])
 
 abbrev withPoint : Bool → AbstractState
-withPoint on = withLights freshAbstract (lightAt 0 true (typed 3) ∷ lightAt 3 true (typed 2) ∷ lightAt 4 false (typed 3) ∷ lightAt 5 false (typed 2) ∷ lightAt 9 on (typed 1) ∷ [])
+withPoint on = replacedLights freshAbstract (indexedLight 0 true (typed 3) ∷ indexedLight 3 true (typed 2) ∷ indexedLight 4 false (typed 3) ∷ indexedLight 5 false (typed 2) ∷ indexedLight 9 on (typed 1) ∷ [])
 
 light-inputs : (abstractLightInputs two ≡ 0x00080109) × (abstractLightInputs (withPoint true) ≡ 0x01020107) × (abstractLightInputs (withPoint false) ≡ 0x01020103)
 unfolding abstractLightInputs wordOf rawMask activeKind abstractLight lookup compactedMask bitsNumber compacted abstractActive activeOf lights? countBeyond

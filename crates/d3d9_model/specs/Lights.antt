@@ -1,4 +1,4 @@
--- Lights by ascending index. Document 01, 'The list and the count of demand 3' and 'Calls that change the state'; Microsoft, IDirect3DDevice9::SetLight, LightEnable, GetLight, GetLightEnable.
+-- Lights by ascending index. Document 01, 'The list and the count of demand 3' and 'Calls that change the state'; in Direct3D IDirect3DDevice9::SetLight, LightEnable, GetLight, GetLightEnable.
 use Prim.Native.Nat.{ℕ, suc}
 use mathlib.Core.Bool.{Bool, true, false, cond, _&&_}
 use mathlib.Core.Option.{Option, none, some}
@@ -8,8 +8,8 @@ use Rattle.d3d9_types.specs.Light.{defaultLight}
 use Rattle.d3d9_types.specs.declared.light.D3DLIGHT9.{D3DLIGHT9}
 use Rattle.d3d9_model.specs.State.{AbstractLight, AbstractState}
 
-abbrev pub lightAt : ℕ → Bool → D3DLIGHT9 → AbstractLight
-lightAt i on l = record { index = i; enabled = on; light = l }
+abbrev pub indexedLight : ℕ → Bool → D3DLIGHT9 → AbstractLight
+indexedLight i on l = record { index = i; enabled = on; light = l }
 
 -- the light of an index, if there is one
 unfoldable pub lookup : ℕ → List AbstractLight → Option AbstractLight
@@ -25,11 +25,11 @@ changedAt i change new (l ∷ ls) =
 
 -- "Setting a light replaces it and keeps the enable, off if new."
 unfoldable pub lightSet : ℕ → D3DLIGHT9 → List AbstractLight → List AbstractLight
-lightSet i l = changedAt i (λ e. lightAt i (e .enabled) l) (lightAt i false l)
+lightSet i l = changedAt i (λ e. indexedLight i (e .enabled) l) (indexedLight i false l)
 
 -- "Enable replaces the enable, adding the default light where there is none."
 unfoldable pub lightEnabled : ℕ → Bool → List AbstractLight → List AbstractLight
-lightEnabled i on = changedAt i (λ e. lightAt i on (e .light)) (lightAt i on defaultLight)
+lightEnabled i on = changedAt i (λ e. indexedLight i on (e .light)) (indexedLight i on defaultLight)
 
 -- how many have an index of 8 or more
 unfoldable pub countBeyond : List AbstractLight → ℕ

@@ -6,10 +6,10 @@ use Rattle.d3d9_types.specs.declared.matrix.D3DMATRIX.{D3DMATRIX}
 use Rattle.d3d9_types.specs.declared.material.D3DMATERIAL9.{D3DMATERIAL9}
 use Rattle.d3d9_types.specs.declared.light.D3DLIGHT9.{D3DLIGHT9}
 use Rattle.matrix.specs.Product.{matMul}
-use Rattle.d3d9_model.specs.State.{AbstractState, withMatrix, withMaterial, withLights}
+use Rattle.d3d9_model.specs.State.{AbstractState, replacedMatrix, replacedMaterial, replacedLights}
 use Rattle.d3d9_model.specs.Lights.{lookup, isThere, lightSet, lightEnabled, countBeyond}
 
--- Microsoft, IDirect3DDevice9::SetTransform, MultiplyTransform, SetMaterial, SetLight, LightEnable; mark is document 01's own
+-- in Direct3D IDirect3DDevice9::SetTransform, MultiplyTransform, SetMaterial, SetLight, LightEnable; mark is document 01's own
 -- over the types of a matrix, a material, a light and an enable: records and a Bool by value, bytes and a number by the host
 pub data OperationOn (M D L E : Type 0) : Type 0 where
   setTransform multiplyTransform : ℕ → M → OperationOn M D L E
@@ -21,7 +21,7 @@ pub data OperationOn (M D L E : Type 0) : Type 0 where
 abbrev pub Operation : Type 0
 Operation = OperationOn D3DMATRIX D3DMATERIAL9 D3DLIGHT9 Bool
 
--- "state 2 view, 3 projection, 16 to 23 texture, 256 to 511 palette"; Microsoft, D3DTRANSFORMSTATETYPE
+-- "state 2 view, 3 projection, 16 to 23 texture, 256 to 511 palette", the numbers of D3DTRANSFORMSTATETYPE
 unfoldable pub known : ℕ → Bool
 known n = eqb n 2 || (eqb n 3 || ((leb 16 n && leb n 23) || (leb 256 n && leb n 511)))
 
@@ -40,11 +40,11 @@ abstractRefusal a (mark bits) = cond (leb bits 63) 0 7
 
 -- "Set replaces a slot; multiply replaces it by its product", which is slot × argument
 unfoldable pub abstractChange : AbstractState → Operation → AbstractState
-abstractChange a (setTransform n m) = withMatrix a n m
-abstractChange a (multiplyTransform n m) = withMatrix a n (matMul (a .matrix n) m)
-abstractChange a (setMaterial m) = withMaterial a m
-abstractChange a (setLight i l) = withLights a (lightSet i l (a .lights))
-abstractChange a (enableLight i on) = withLights a (lightEnabled i on (a .lights))
+abstractChange a (setTransform n m) = replacedMatrix a n m
+abstractChange a (multiplyTransform n m) = replacedMatrix a n (matMul (a .matrix n) m)
+abstractChange a (setMaterial m) = replacedMaterial a m
+abstractChange a (setLight i l) = replacedLights a (lightSet i l (a .lights))
+abstractChange a (enableLight i on) = replacedLights a (lightEnabled i on (a .lights))
 abstractChange a (mark bits) = a
 
 -- "Mark .. and any call that this paper refuses leave the book alone."

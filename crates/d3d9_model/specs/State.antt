@@ -32,12 +32,12 @@ unfoldable pub raised : ℕ → ℕ → ℕ
 raised highest n = cond (leb 256 n && leb n 511) (max highest (n - 256)) highest
 
 -- one update for each field; of the matrices, one
-abbrev pub withMatrix : AbstractState → ℕ → D3DMATRIX → AbstractState
-withMatrix a n m =
+abbrev pub replacedMatrix : AbstractState → ℕ → D3DMATRIX → AbstractState
+replacedMatrix a n m =
     record { matrix = λ k. cond (eqb k n) m (a .matrix k); material = a .material; lights = a .lights; highestIndex = raised (a .highestIndex) n }
 
-abbrev pub withMaterial : AbstractState → D3DMATERIAL9 → AbstractState
-withMaterial a m = record { matrix = a .matrix; material = m; lights = a .lights; highestIndex = a .highestIndex }
+abbrev pub replacedMaterial : AbstractState → D3DMATERIAL9 → AbstractState
+replacedMaterial a m = record { matrix = a .matrix; material = m; lights = a .lights; highestIndex = a .highestIndex }
 
-abbrev pub withLights : AbstractState → List AbstractLight → AbstractState
-withLights a ls = record { matrix = a .matrix; material = a .material; lights = ls; highestIndex = a .highestIndex }
+abbrev pub replacedLights : AbstractState → List AbstractLight → AbstractState
+replacedLights a ls = record { matrix = a .matrix; material = a .material; lights = ls; highestIndex = a .highestIndex }

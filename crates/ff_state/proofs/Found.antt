@@ -7,7 +7,7 @@ use lib.ListN.{length, take, getD, length-take}
 use Rattle.light_table.specs.Entry.{zeroEntry}
 use Rattle.light_table.specs.Overflow.{usedCount, findEntry}
 use Rattle.ff_state.specs.Overflow.{used}
-use Rattle.ff_state.specs.Lights.{found, entryAt}
+use Rattle.ff_state.specs.Lights.{found, storedEntry}
 use Rattle.ff_state.specs.declared.state.FfState.{FfState}
 use Rattle.light_table.specs.declared.entry.OverflowLight.{OverflowLight}
 use Rattle.light_table.specs.declared.overflow.Found.{Found}
@@ -49,5 +49,5 @@ module _ (s : FfState) where
       pub place-below : f .at < 56
       place-below = omega (arith, place-used, at-most-56)
 
-      pub entry-there : (d : OverflowLight) → getD (s .«overflow_lights») (f .at) d ≡ entryAt s (f .at)
+      pub entry-there : (d : OverflowLight) → getD (s .«overflow_lights») (f .at) d ≡ storedEntry s (f .at)
       entry-there d = getD-default (s .«overflow_lights») (f .at) d zeroEntry (omega (arith, place-used, in-use))

@@ -20,12 +20,12 @@ use Rattle.light_table.specs.Overflow.{usedCount, insertedAt}
 use Rattle.sections.specs.Sections.{bitOf, bitPlace, hasSection, allBits}
 use Rattle.words.specs.Bits.{hasBit, withBit}
 use Rattle.ff_state.specs.State.{noMatrix, withMaterial, withLightEnabled, withOverflowLights, withOverflowCount, dirtyWord}
-use Rattle.light_table.specs.Entry.{entry}
+use Rattle.light_table.specs.Entry.{lightEntry}
 use Rattle.ff_state.specs.Dirty.{dirtied, markFfVsDirty, takeFfVsDirty}
-use Rattle.ff_state.specs.Transforms.{slotOf, placeSections, placeBits, placed, matrixAt, changeAt}
+use Rattle.ff_state.specs.Transforms.{slotOf, placeSections, placeBits, placed, placeMatrix, changeAt}
 use Rattle.ff_state.specs.Transforms as Transforms
 use Rattle.ff_state.specs.Material as Materials
-use Rattle.ff_state.specs.Lights.{setLightAt, setLightEnabledAt, changeEntry, replaceEntry, insertEntry, lightsBit, found, entryAt, flag}
+use Rattle.ff_state.specs.Lights.{setLightAt, setLightEnabledAt, changeEntry, replaceEntry, insertEntry, lightsBit, found, storedEntry, flag}
 use Rattle.ff_state.specs.Slots.{setSlot, defineSlot, enableSlot}
 use Rattle.ff_state.specs.Inputs.{sameInputs}
 use Rattle.ff_state.specs.Operate.{operate}
@@ -186,21 +186,21 @@ insert-keeps s at x σ =
 entry-keeps : (s : FfState) (f : Found) (change : OverflowLight → OverflowLight) (made : OverflowLight) (σ : Section) → Keeps s σ (changeEntry s f change made)
 unfolding changeEntry
 entry-keeps s f change made σ =
-    branch (Keeps s σ) (f .stored) _ _ (λ e. replace-keeps s (f .at) (change (entryAt s (f .at))) σ) (λ e. insert-keeps s (f .at) made σ)
+    branch (Keeps s σ) (f .stored) _ _ (λ e. replace-keeps s (f .at) (change (storedEntry s (f .at))) σ) (λ e. insert-keeps s (f .at) made σ)
 
 set-light-keeps : (s : FfState) (i : ℕ) (l : D3DLIGHT9) (σ : Section) → Keeps s σ (setLightAt s i l)
 unfolding setLightAt
 set-light-keeps s i l σ =
     branch (Keeps s σ) (ltb i 8) _ _
     (λ e. lights-same s (setSlot s i l) σ (set-slot-only s i l))
-    (λ e. entry-keeps s (found s i) (λ (x : OverflowLight). entry (x .index) (x .enabled) l) (entry i 0 l) σ)
+    (λ e. entry-keeps s (found s i) (λ (x : OverflowLight). lightEntry (x .index) (x .enabled) l) (lightEntry i 0 l) σ)
 
 enable-light-keeps : (s : FfState) (i : ℕ) (on : Bool) (σ : Section) → Keeps s σ (setLightEnabledAt s i on)
 unfolding setLightEnabledAt
 enable-light-keeps s i on σ =
     branch (Keeps s σ) (ltb i 8) _ _
     (λ e. lights-same s (enableSlot s i on) σ (enable-slot-only s i on))
-    (λ e. entry-keeps s (found s i) (λ (x : OverflowLight). entry (x .index) (flag on) (x .light)) (entry i (flag on) defaultLight) σ)
+    (λ e. entry-keeps s (found s i) (λ (x : OverflowLight). lightEntry (x .index) (flag on) (x .light)) (lightEntry i (flag on) defaultLight) σ)
 
 -- ---- marking and taking
 
@@ -223,7 +223,7 @@ taken-same s Tt = refl
 pub unmarked-same : (s : FfState) (op : Operation) (σ : Section) → hasSection (dirtyWord (operate s op .state)) σ ≡ false → sameInputs σ s (operate s op .state)
 unfolding operate Transforms.setTransform Transforms.multiplyTransform
 unmarked-same s (setTransform n m) σ e = place-same s (slotOf n) (λ (p : Place). m) σ e
-unmarked-same s (multiplyTransform n m) σ e = place-same s (slotOf n) (λ (p : Place). matMul (matrixAt s p) m) σ e
+unmarked-same s (multiplyTransform n m) σ e = place-same s (slotOf n) (λ (p : Place). matMul (placeMatrix s p) m) σ e
 unmarked-same s (setMaterial m) σ e = material-same s m σ e
 unmarked-same s (setLight i l) σ e = set-light-keeps s i l σ e
 unmarked-same s (enableLight i on) σ e = enable-light-keeps s i on σ e

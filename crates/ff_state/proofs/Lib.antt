@@ -1,3 +1,4 @@
+pub mod State
 pub mod Places
 pub mod Found
 pub mod Room

@@ -8,7 +8,7 @@ use borrow.Author.Tests.{lt-ltb, le-ltb, ltb-true, ltb-false}
 use Rattle.lemmas.proofs.Tests.{neither}
 use Rattle.d3d9_types.specs.Light.{defaultLight}
 use Rattle.d3d9_types.specs.declared.light.D3DLIGHT9.{D3DLIGHT9}
-use Rattle.light_table.specs.Entry.{entry}
+use Rattle.light_table.specs.Entry.{lightEntry}
 use Rattle.ff_state.specs.Slots.{setSlot, enableSlot}
 use Rattle.light_table.specs.Overflow.{usedCount}
 use Rattle.ff_state.specs.Lights.{found, flag, hasRoom, inSlot, replaceEntry, insertEntry, changeEntry, setLightAt, setLightEnabledAt, lightNumber}
@@ -40,8 +40,8 @@ last-of false stored true near a b c d h = absurd (true≢false h)
 last-of false true false near a b c d h = absurd (true≢false h)
 last-of false false false near a b c d h = refl
 
-abbrev pub refusal : FfState → LightChanged
-refusal s = record { answer = Full; state = s }
+abbrev pub roomRefusal : FfState → LightChanged
+roomRefusal s = record { answer = Full; state = s }
 
 module _ (s : FfState) (i : ℕ) where
   pub record NoRoom : Type 0 where
@@ -73,24 +73,24 @@ module _ (s : FfState) (i : ℕ) where
         (λ (f : ltb (usedCount (s .«overflow_count»)) 56 ≡ true). lt-ltb (found s i .at) 56 (omega (arith, ltb-true (usedCount (s .«overflow_count»)) 56 f, place-used-most s i (found s i) refl)))
         refl refl refl refl
 
-    unchanged : hasRoom s i ≡ false → call ≡ refusal s
+    unchanged : hasRoom s i ≡ false → call ≡ roomRefusal s
     unfolding hasRoom changeEntry insertEntry
     unchanged h = last-of (ltb i 8) (found s i .stored) (ltb (usedCount (s .«overflow_count»)) 56) (ltb (found s i .at) 56) _ _ _ _ h
 
   module _ (l : D3DLIGHT9) where
     pub set-answer : lightNumber (setLightAt s i l .answer) ≡ cond (hasRoom s i) 0 3
     unfolding setLightAt
-    set-answer = answer (setSlot s i l) (λ e. entry (e .index) (e .enabled) l) (entry i 0 l)
+    set-answer = answer (setSlot s i l) (λ e. lightEntry (e .index) (e .enabled) l) (lightEntry i 0 l)
 
-    pub set-refused : hasRoom s i ≡ false → setLightAt s i l ≡ refusal s
+    pub set-refused : hasRoom s i ≡ false → setLightAt s i l ≡ roomRefusal s
     unfolding setLightAt
-    set-refused = unchanged (setSlot s i l) (λ e. entry (e .index) (e .enabled) l) (entry i 0 l)
+    set-refused = unchanged (setSlot s i l) (λ e. lightEntry (e .index) (e .enabled) l) (lightEntry i 0 l)
 
   module _ (on : Bool) where
     pub enable-answer : lightNumber (setLightEnabledAt s i on .answer) ≡ cond (hasRoom s i) 0 3
     unfolding setLightEnabledAt
-    enable-answer = answer (enableSlot s i on) (λ e. entry (e .index) (flag on) (e .light)) (entry i (flag on) defaultLight)
+    enable-answer = answer (enableSlot s i on) (λ e. lightEntry (e .index) (flag on) (e .light)) (lightEntry i (flag on) defaultLight)
 
-    pub enable-refused : hasRoom s i ≡ false → setLightEnabledAt s i on ≡ refusal s
+    pub enable-refused : hasRoom s i ≡ false → setLightEnabledAt s i on ≡ roomRefusal s
     unfolding setLightEnabledAt
-    enable-refused = unchanged (enableSlot s i on) (λ e. entry (e .index) (flag on) (e .light)) (entry i (flag on) defaultLight)
+    enable-refused = unchanged (enableSlot s i on) (λ e. lightEntry (e .index) (flag on) (e .light)) (lightEntry i (flag on) defaultLight)

@@ -1,4 +1,4 @@
--- Lights by any index. Document 01, 'Calls that change the state', the paragraph on lights; Microsoft, IDirect3DDevice9::SetLight, LightEnable, GetLight, GetLightEnable.
+-- Lights by any index. Document 01, 'Calls that change the state', the paragraph on lights; in Direct3D IDirect3DDevice9::SetLight, LightEnable, GetLight, GetLightEnable.
 use Prim.Native.Nat.{ℕ, _+_}
 use mathlib.Core.Bool.{Bool, cond, not, _&&_, _||_}
 use lib.Dec.{ltb, eqb}
@@ -7,7 +7,7 @@ use Rattle.d3d9_types.specs.Light.{defaultLight}
 use Rattle.d3d9_types.specs.declared.light.D3DLIGHT9.{D3DLIGHT9}
 use Rattle.words.specs.Bits.{hasBit}
 use Rattle.sections.specs.Sections.{bitOf}
-use Rattle.light_table.specs.Entry.{entry, zeroEntry}
+use Rattle.light_table.specs.Entry.{lightEntry, zeroEntry}
 use Rattle.ff_state.specs.State.{withOverflowLights, withOverflowCount}
 use Rattle.ff_state.specs.Dirty.{dirtied}
 use Rattle.ff_state.specs.Slots.{setSlot, enableSlot}
@@ -30,8 +30,8 @@ lightsBit = bitOf Sections.Lights
 unfoldable pub found : FfState → ℕ → Found
 found s i = findEntry (used s) i
 
-abbrev pub entryAt : FfState → ℕ → OverflowLight
-entryAt s at = getD (s .«overflow_lights») at zeroEntry
+abbrev pub storedEntry : FfState → ℕ → OverflowLight
+storedEntry s at = getD (s .«overflow_lights») at zeroEntry
 
 -- an entry in the place of a stored one
 unfoldable pub replaceEntry : FfState → ℕ → OverflowLight → LightChanged
@@ -47,7 +47,7 @@ insertEntry s at e =
 
 -- a light beyond the slots: an entry that is stored is changed, and one that is not is made
 unfoldable pub changeEntry : FfState → Found → (OverflowLight → OverflowLight) → OverflowLight → LightChanged
-changeEntry s f change made = cond (f .stored) (replaceEntry s (f .at) (change (entryAt s (f .at)))) (insertEntry s (f .at) made)
+changeEntry s f change made = cond (f .stored) (replaceEntry s (f .at) (change (storedEntry s (f .at)))) (insertEntry s (f .at) made)
 
 -- "Set and enable refuse 3 exactly if the index is 8 or more, not stored, and 56 such are stored."
 unfoldable pub hasRoom : FfState → ℕ → Bool
@@ -60,7 +60,7 @@ inSlot s = record { answer = Accepted; state = dirtied s lightsBit }
 unfoldable pub setLightAt : FfState → ℕ → D3DLIGHT9 → LightChanged
 setLightAt s i l =
     cond (ltb i 8) (inSlot (setSlot s i l))
-    (changeEntry s (found s i) (λ e. entry (e .index) (e .enabled) l) (entry i 0 l))
+    (changeEntry s (found s i) (λ e. lightEntry (e .index) (e .enabled) l) (lightEntry i 0 l))
 
 unfoldable pub flag : Bool → ℕ
 flag on = cond on 1 0
@@ -69,18 +69,18 @@ flag on = cond on 1 0
 unfoldable pub setLightEnabledAt : FfState → ℕ → Bool → LightChanged
 setLightEnabledAt s i on =
     cond (ltb i 8) (inSlot (enableSlot s i on))
-    (changeEntry s (found s i) (λ e. entry (e .index) (flag on) (e .light)) (entry i (flag on) defaultLight))
+    (changeEntry s (found s i) (λ e. lightEntry (e .index) (flag on) (e .light)) (lightEntry i (flag on) defaultLight))
 
 -- "Read refuses 2 if undefined."
 unfoldable pub getLightAt : FfState → ℕ → LightRead
 getLightAt s i =
     cond (ltb i 8)
     (cond (hasBit (s .«light_defined_mask») i) (Light (getD (s .lights) i defaultLight)) Undefined)
-    (cond (found s i .stored) (Light (entryAt s (found s i .at) .light)) Undefined)
+    (cond (found s i .stored) (Light (storedEntry s (found s i .at) .light)) Undefined)
 
 unfoldable pub isLightEnabledAt : FfState → ℕ → Bool
 isLightEnabledAt s i =
-    cond (ltb i 8) (hasBit (s .«light_enabled») i) (found s i .stored && not (eqb (entryAt s (found s i .at) .enabled) 0))
+    cond (ltb i 8) (hasBit (s .«light_enabled») i) (found s i .stored && not (eqb (storedEntry s (found s i .at) .enabled) 0))
 
 unfoldable pub isLightDefinedAt : FfState → ℕ → Bool
 isLightDefinedAt s i = cond (ltb i 8) (hasBit (s .«light_defined_mask») i) (found s i .stored)

@@ -1,4 +1,4 @@
--- The material. Document 01: "Material never refuses and dirties MATERIAL." Microsoft, IDirect3DDevice9::SetMaterial.
+-- The material. Document 01: "Material never refuses and dirties MATERIAL." Direct3D calls it IDirect3DDevice9::SetMaterial.
 use Rattle.d3d9_types.specs.declared.material.D3DMATERIAL9.{D3DMATERIAL9}
 use Rattle.sections.specs.Sections.{bitOf}
 use Rattle.ff_state.specs.State.{withMaterial}

@@ -51,11 +51,11 @@ placeSections (Palette i) = cond (eqb i 0) (Wv ∷ Sections.Palette ∷ []) (Sec
 abbrev pub placeBits : Place → ℕ
 placeBits p = bitsOf (placeSections p)
 
-unfoldable pub matrixAt : FfState → Place → D3DMATRIX
-matrixAt s View = s .view
-matrixAt s Projection = s .projection
-matrixAt s (Texture i) = getD (s .«texture_transforms») i noMatrix
-matrixAt s (Palette i) = getD (s .«world_palette») i noMatrix
+unfoldable pub placeMatrix : FfState → Place → D3DMATRIX
+placeMatrix s View = s .view
+placeMatrix s Projection = s .projection
+placeMatrix s (Texture i) = getD (s .«texture_transforms») i noMatrix
+placeMatrix s (Palette i) = getD (s .«world_palette») i noMatrix
 
 -- a matrix stored at a place; a palette index raises the highest one ever set or multiplied
 unfoldable pub placed : FfState → Place → D3DMATRIX → FfState
@@ -74,10 +74,10 @@ setTransform s n m = changeAt s (slotOf n) (λ p. m)
 
 -- "Multiply stores slot × argument"
 unfoldable pub multiplyTransform : FfState → ℕ → D3DMATRIX → TransformChanged
-multiplyTransform s n m = changeAt s (slotOf n) (λ p. matMul (matrixAt s p) m)
+multiplyTransform s n m = changeAt s (slotOf n) (λ p. matMul (placeMatrix s p) m)
 
 unfoldable pub readAt : FfState → Slot → TransformRead
-readAt s (At p) = Reads.Matrix (matrixAt s p)
+readAt s (At p) = Reads.Matrix (placeMatrix s p)
 readAt s Unknown = Reads.UnknownState
 
 unfoldable pub transformOf : FfState → ℕ → TransformRead

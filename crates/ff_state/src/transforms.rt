@@ -1,7 +1,7 @@
 // Transforms, by the numbers of D3DTRANSFORMSTATETYPE.
 ghost use mathlib.Core.Path.{_≡_};
 ghost use Prim.Native.Nat.{_<_};
-ghost use Rattle.ff_state.specs.Transforms.{slotOf, InRange, matrixAt, placed, placeBits, setTransform, multiplyTransform, transformOf};
+ghost use Rattle.ff_state.specs.Transforms.{slotOf, InRange, placeMatrix, placed, placeBits, setTransform, multiplyTransform, transformOf};
 ghost use Rattle.ff_state.specs.Transforms as Transforms;
 use crate::dirty::with_dirty;
 use crate::state::FfState;
@@ -120,9 +120,9 @@ fn placed_at(s: FfState, place: Place, m: D3DMATRIX) -> FfState
     }
 }
 
-fn matrix_at(s: FfState, place: Place) -> D3DMATRIX
+fn place_matrix(s: FfState, place: Place) -> D3DMATRIX
     requires { ⌜ InRange place ⌝ }
-    ensures { λ r. ⌜ r ≡ matrixAt s place ⌝ }
+    ensures { λ r. ⌜ r ≡ placeMatrix s place ⌝ }
 {
     match place {
         Place::View => s.view,
@@ -148,7 +148,7 @@ impl FfState {
         }
     }
 
-    // Stores slot x argument, as the Rust does; Microsoft's page has the other order.
+    // Stores slot x argument, as the Rust does; by document 01 Microsoft's page has the other order.
     pub fn multiply_transform(self, state: u32, m: D3DMATRIX) -> TransformChanged
         ensures { λ r. ⌜ r ≡ multiplyTransform self state m ⌝ }
     {
@@ -158,7 +158,7 @@ impl FfState {
                 state: self,
             };
         };
-        let product = mat_mul(matrix_at(self, place), m);
+        let product = mat_mul(place_matrix(self, place), m);
         TransformChanged {
             answer: TransformAnswer::Accepted,
             state: with_dirty(placed_at(self, place, product), place_bits(place)),
@@ -171,7 +171,7 @@ impl FfState {
         let Slot::At(place) = slot_of(state) else {
             return TransformRead::UnknownState;
         };
-        TransformRead::Matrix(matrix_at(self, place))
+        TransformRead::Matrix(place_matrix(self, place))
     }
 
     // The highest palette index ever set or multiplied, plus 1.

@@ -1,7 +1,7 @@
 // The dirty bits.
 ghost use mathlib.Core.Path.{_≡_};
 ghost use Rattle.calls.specs.Answer.{answer};
-ghost use Rattle.calls.specs.Bits.{both, ffMarkFfVsDirty, ffTakeFfVsDirty};
+ghost use Rattle.calls.specs.Bits.{imageAndNumber, ffMarkFfVsDirty, ffTakeFfVsDirty};
 
 #[no_mangle]
 pub extern "C" fn ff_mark_ff_vs_dirty(image: &mut [u8], bits: u32) -> u32
@@ -12,7 +12,7 @@ pub extern "C" fn ff_mark_ff_vs_dirty(image: &mut [u8], bits: u32) -> u32
 
 #[no_mangle]
 pub extern "C" fn ff_take_ff_vs_dirty(image: &mut [u8], out: &mut u32) -> u32
-    ensures { λ r. ⌜ answer r (both (now (image .exit)) (now (out .exit))) ≡ ffTakeFfVsDirty (now (image .entry)) (now (out .entry)) ⌝ }
+    ensures { λ r. ⌜ answer r (imageAndNumber (now (image .exit)) (now (out .exit))) ≡ ffTakeFfVsDirty (now (image .entry)) (now (out .entry)) ⌝ }
 {
     calls::take_ff_vs_dirty(image, out)
 }

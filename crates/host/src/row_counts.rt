@@ -3,7 +3,7 @@ ghost use mathlib.Core.Path.{_≡_};
 ghost use Rattle.calls.specs.Answer.{answer};
 ghost use Rattle.sections.specs.declared.sections.Section.the-variants.{Wv, Proj, Material, Lights, Palette, Tt};
 ghost use Rattle.pack_calls.specs.Key.{keyOf};
-ghost use Rattle.pack_calls.specs.RowCounts.{ffSectionRows, ffVsRowCount};
+ghost use Rattle.pack_calls.specs.RowCounts.{ffSectionRows, hostRowCount};
 use pack_calls::section_rows;
 use pack_calls::vs_row_count;
 use sections::Section;
@@ -20,7 +20,7 @@ pub extern "C" fn ff_vs_row_count(
     vertex_blend_count: u8,
     out: &mut u32,
 ) -> u32
-    ensures { λ r. ⌜ answer r (now (out .exit)) ≡ ffVsRowCount (now (image .entry)) (keyOf «has_rhw» «lighting_enabled» «specular_enable» «vertex_blend_indexed» «light_active_mask» «fog_mode» «vertex_blend_count») (now (out .entry)) ⌝ }
+    ensures { λ r. ⌜ answer r (now (out .exit)) ≡ hostRowCount (now (image .entry)) (keyOf «has_rhw» «lighting_enabled» «specular_enable» «vertex_blend_indexed» «light_active_mask» «fog_mode» «vertex_blend_count») (now (out .entry)) ⌝ }
 {
     vs_row_count(
         image,

@@ -8,19 +8,19 @@ use Rattle.codec.proofs.Inside.{Skips, Starts, inside}
 use Rattle.image.specs.Table.{Field, tableBytes, Tiles}
 
 -- the field's bytes stand at its place
-pub record Holds (bytes : List ℕ) (f : Field) : Type 0 where
+pub record HoldsField (bytes : List ℕ) (f : Field) : Type 0 where
   pub front : List ℕ
   pub behind : List ℕ
   pub long : length front ≡ f .place
   pub is : bytes ≡ front ++ (f .bytes ++ behind)
 
-pub held-reads : {A : Type 0} {x : A} {bytes : List ℕ} {f : Field} (read : List ℕ → ℕ → A) → Skips read → Starts read (f .bytes) x → Holds bytes f → read bytes (f .place) ≡ x
+pub held-reads : {A : Type 0} {x : A} {bytes : List ℕ} {f : Field} (read : List ℕ → ℕ → A) → Skips read → Starts read (f .bytes) x → HoldsField bytes f → read bytes (f .place) ≡ x
 held-reads {x = x} {f = f} read skips starts h = rw (h .is) (inside read skips (f .bytes) x starts (h .front) (h .behind) (f .place) (h .long))
 
 -- each field of a list
 abbrev pub AllHold : List ℕ → List Field → Type 0
 AllHold bytes [] = Unit
-AllHold bytes (f ∷ fs) = Holds bytes f × AllHold bytes fs
+AllHold bytes (f ∷ fs) = HoldsField bytes f × AllHold bytes fs
 
 pub tiles-hold : (n e : ℕ) (fs : List Field) (front : List ℕ) → length front ≡ n → Tiles n fs e → AllHold (front ++ tableBytes fs) fs
 unfolding tableBytes

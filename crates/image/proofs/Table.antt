@@ -17,12 +17,12 @@ length-tableBytes n e (f ∷ fs) t =
     rw length-append (omega arith)
 
 -- each field at its place
-abbrev pub placed : List Field → List ℕ → List ℕ
-placed [] m = m
-placed (f ∷ fs) m = placed fs (put (f .place) (f .bytes) m)
+abbrev pub fieldPlaced : List Field → List ℕ → List ℕ
+fieldPlaced [] m = m
+fieldPlaced (f ∷ fs) m = fieldPlaced fs (put (f .place) (f .bytes) m)
 
 placed-behind : (n e : ℕ) (fs : List Field) (ws m : List ℕ) → length ws ≡ n → Tiles n fs e → e ≤ length m
-    → placed fs (put 0 ws m) ≡ put 0 (ws ++ tableBytes fs) m
+    → fieldPlaced fs (put 0 ws m) ≡ put 0 (ws ++ tableBytes fs) m
 unfolding tableBytes
 placed-behind n e [] ws m l t h = rw append-nil
 placed-behind n e (f ∷ fs) ws m l t h =
@@ -35,7 +35,7 @@ placed-behind n e (f ∷ fs) ws m l t h =
     rw (joined, ← append-assoc) (placed-behind (n + length v) e fs (ws ++ v) m long (t .1) h)
 
 -- over a list as long as the table, nothing of the list is left
-pub placed-all : (e : ℕ) (fs : List Field) (m : List ℕ) → Tiles 0 fs e → length m ≡ e → placed fs m ≡ tableBytes fs
+pub placed-all : (e : ℕ) (fs : List Field) (m : List ℕ) → Tiles 0 fs e → length m ≡ e → fieldPlaced fs m ≡ tableBytes fs
 placed-all e fs m t h =
     let long : 0 + length (tableBytes fs) ≡ e = length-tableBytes 0 e fs t in
-    ap (placed fs) (sym (put-none 0 m)) ∙ placed-behind 0 e fs [] m refl t (omega arith) ∙ put-whole (tableBytes fs) m (omega arith)
+    ap (fieldPlaced fs) (sym (put-none 0 m)) ∙ placed-behind 0 e fs [] m refl t (omega arith) ∙ put-whole (tableBytes fs) m (omega arith)

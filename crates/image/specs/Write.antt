@@ -11,15 +11,15 @@ use Rattle.image.specs.declared.write.WriteAnswer.{WriteAnswer}
 use Rattle.image.specs.declared.write.WriteAnswer.the-variants.{Written, WrongLength}
 
 -- the answer, and the destination afterwards
-pub record Outcome : Type 0 where
+pub record WriteOutcome : Type 0 where
   pub answer : WriteAnswer
   pub bytes : List ℕ
 
-abbrev pub outcome : WriteAnswer → List ℕ → Outcome
-outcome a bs = record { answer = a; bytes = bs }
+abbrev pub writeOutcome : WriteAnswer → List ℕ → WriteOutcome
+writeOutcome a bs = record { answer = a; bytes = bs }
 
-unfoldable pub writeImage : FfState → List ℕ → Outcome
-writeImage s dst = cond (eqb (length dst) imageLength) (outcome Written (imageBytes s)) (outcome WrongLength dst)
+unfoldable pub writeImage : FfState → List ℕ → WriteOutcome
+writeImage s dst = cond (eqb (length dst) imageLength) (writeOutcome Written (imageBytes s)) (writeOutcome WrongLength dst)
 
 -- document 01's number of each answer
 unfoldable pub writeNumber : WriteAnswer → ℕ

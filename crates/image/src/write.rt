@@ -1,6 +1,6 @@
 // A state written as an image. Document 01, 'State image'.
 ghost use mathlib.Core.Path.{_≡_};
-ghost use Rattle.image.specs.Write.{outcome, writeImage};
+ghost use Rattle.image.specs.Write.{writeOutcome, writeImage};
 use codec::put_material;
 use codec::put_matrix;
 use codec::put_u8;
@@ -21,7 +21,7 @@ pub enum WriteAnswer {
 }
 
 pub fn write_image(s: FfState, dst: &mut [u8]) -> WriteAnswer
-    ensures { λ r. ⌜ outcome r (now (dst .exit)) ≡ writeImage s (now (dst .entry)) ⌝ }
+    ensures { λ r. ⌜ writeOutcome r (now (dst .exit)) ≡ writeImage s (now (dst .entry)) ⌝ }
 {
     if dst.len() != IMAGE_LENGTH {
         return WriteAnswer::WrongLength;

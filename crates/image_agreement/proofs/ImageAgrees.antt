@@ -18,7 +18,7 @@ use Rattle.image_lists.specs.Lists.{listAt}
 use Rattle.image_reasons.specs.Reasons.{countOf, refused}
 use Rattle.image_reasons.proofs.Accepted.{accepted}
 use Rattle.image_lists.proofs.Reading.{getD-listAt, take-listAt}
-use Rattle.image_model.specs.Abstract.{imageMatrix, slotDefined, slotLight, definedAmong, entryLight, imageLights, imageAbstract}
+use Rattle.image_model.specs.Abstract.{imageMatrix, imageSlotDefined, imageSlotLight, definedAmong, entryLight, imageLights, imageAbstract}
 use Rattle.image.specs.Read.{stateOf}
 use Rattle.agreement.specs.Agrees.{definedFrom, slotEntry, overflowEntry, stateLights, Agrees}
 
@@ -64,12 +64,12 @@ map-listAt f read size zero bytes at = refl
 map-listAt {B = B} f read size (suc n) bytes at = ap {B = List B} (λ l. f (read bytes at) ∷ l) (map-listAt f read size n bytes (at + size))
 
 module _ (bytes : List ℕ) where
-  slot-is : (i : ℕ) → i < 8 → slotEntry (stateOf bytes) i ≡ slotLight bytes i
+  slot-is : (i : ℕ) → i < 8 → slotEntry (stateOf bytes) i ≡ imageSlotLight bytes i
   unfolding stateOf
   slot-is i h = rw (getD-listAt Codec.lightAt 104 8 bytes 17_092 i defaultLight h)
 
-  slots-are : definedFrom (slotDefined bytes) (slotEntry (stateOf bytes)) 0 8 ≡ definedAmong (slotDefined bytes) (slotLight bytes) (countFrom 0 8)
-  slots-are = among-is (slotDefined bytes) (slotEntry (stateOf bytes)) (slotLight bytes) 8 slot-is 8 0 (omega arith)
+  slots-are : definedFrom (imageSlotDefined bytes) (slotEntry (stateOf bytes)) 0 8 ≡ definedAmong (imageSlotDefined bytes) (imageSlotLight bytes) (countFrom 0 8)
+  slots-are = among-is (imageSlotDefined bytes) (slotEntry (stateOf bytes)) (imageSlotLight bytes) 8 slot-is 8 0 (omega arith)
 
   entries-are : countOf bytes ≤ 56 → map overflowEntry (used (stateOf bytes)) ≡ listAt entryLight 112 (countOf bytes) bytes 17_932
   unfolding stateOf usedCount entryLight entryAt

@@ -31,24 +31,24 @@ use Rattle.image_reasons.specs.Length.{tailLength}
 use Rattle.image.specs.Format.{imageBytes, imageTable, Sized}
 use Rattle.image.specs.Table.{field}
 use Rattle.image.proofs.Format.{image-holds}
-use Rattle.image.proofs.Held.{Holds, held-reads}
+use Rattle.image.proofs.Held.{HoldsField, held-reads}
 
 -- the fields of a written image by name
 pub record Written (s : FfState) (bytes : List ℕ) : Type 0 where
-  pub view : Holds bytes (field 0 (matrixBytes (s .view)))
-  pub projection : Holds bytes (field 64 (matrixBytes (s .projection)))
-  pub palette : Holds bytes (field 128 (listBytes matrixBytes (s .«world_palette»)))
-  pub texture : Holds bytes (field 16_512 (listBytes matrixBytes (s .«texture_transforms»)))
-  pub material : Holds bytes (field 17_024 (materialBytes (s .material)))
-  pub lights : Holds bytes (field 17_092 (listBytes lightBytes (s .lights)))
-  pub enabled : Holds bytes (field 17_924 (littleBytes 1 (s .«light_enabled»)))
-  pub defined : Holds bytes (field 17_925 (littleBytes 1 (s .«light_defined_mask»)))
-  pub dirty : Holds bytes (field 17_926 (littleBytes 1 (dirtyWord s)))
-  pub zero : Holds bytes (field 17_927 (littleBytes 1 0))
-  pub index : Holds bytes (field 17_928 (littleBytes 2 (s .«world_palette_high_water»)))
-  pub count : Holds bytes (field 17_930 (littleBytes 2 (s .«overflow_count»)))
-  pub entries : Holds bytes (field 17_932 (listBytes entryBytes (s .«overflow_lights»)))
-  pub tail : Holds bytes (field 24_204 (replicate tailLength 0))
+  pub view : HoldsField bytes (field 0 (matrixBytes (s .view)))
+  pub projection : HoldsField bytes (field 64 (matrixBytes (s .projection)))
+  pub palette : HoldsField bytes (field 128 (listBytes matrixBytes (s .«world_palette»)))
+  pub texture : HoldsField bytes (field 16_512 (listBytes matrixBytes (s .«texture_transforms»)))
+  pub material : HoldsField bytes (field 17_024 (materialBytes (s .material)))
+  pub lights : HoldsField bytes (field 17_092 (listBytes lightBytes (s .lights)))
+  pub enabled : HoldsField bytes (field 17_924 (littleBytes 1 (s .«light_enabled»)))
+  pub defined : HoldsField bytes (field 17_925 (littleBytes 1 (s .«light_defined_mask»)))
+  pub dirty : HoldsField bytes (field 17_926 (littleBytes 1 (dirtyWord s)))
+  pub zero : HoldsField bytes (field 17_927 (littleBytes 1 0))
+  pub index : HoldsField bytes (field 17_928 (littleBytes 2 (s .«world_palette_high_water»)))
+  pub count : HoldsField bytes (field 17_930 (littleBytes 2 (s .«overflow_count»)))
+  pub entries : HoldsField bytes (field 17_932 (listBytes entryBytes (s .«overflow_lights»)))
+  pub tail : HoldsField bytes (field 24_204 (replicate tailLength 0))
 
 pub written : (s : FfState) → Sized s → Written s (imageBytes s)
 unfolding imageTable
@@ -87,27 +87,27 @@ written s z =
 -- ---- what a field that stands at its place reads as
 
 module _ {bytes : List ℕ} {at : ℕ} where
-  pub number-reads : (k n : ℕ) → n < 256 ^ k → Holds bytes (field at (littleBytes k n)) → numberAt k bytes at ≡ n
+  pub number-reads : (k n : ℕ) → n < 256 ^ k → HoldsField bytes (field at (littleBytes k n)) → numberAt k bytes at ≡ n
   number-reads k n less = held-reads (numberAt k) (numberAt-skips k) (numberAt-starts k n less)
 
-  pub matrix-reads : {m : D3DMATRIX} → matrixFits m → Holds bytes (field at (matrixBytes m)) → matrixAt bytes at ≡ m
+  pub matrix-reads : {m : D3DMATRIX} → matrixFits m → HoldsField bytes (field at (matrixBytes m)) → matrixAt bytes at ≡ m
   matrix-reads fits = held-reads matrixAt matrixAt-skips (matrixAt-starts fits)
 
-  pub material-reads : {m : D3DMATERIAL9} → materialFits m → Holds bytes (field at (materialBytes m)) → materialAt bytes at ≡ m
+  pub material-reads : {m : D3DMATERIAL9} → materialFits m → HoldsField bytes (field at (materialBytes m)) → materialAt bytes at ≡ m
   material-reads fits = held-reads materialAt materialAt-skips (materialAt-starts fits)
 
   -- a list of n items, each of which fits
-  pub matrices-read : (n : ℕ) (ms : List D3DMATRIX) → length ms ≡ n → ((i : ℕ) → i < n → matrixFits (getD ms i noMatrix)) → Holds bytes (field at (listBytes matrixBytes ms))
+  pub matrices-read : (n : ℕ) (ms : List D3DMATRIX) → length ms ≡ n → ((i : ℕ) → i < n → matrixFits (getD ms i noMatrix)) → HoldsField bytes (field at (listBytes matrixBytes ms))
       → listAt matrixAt 64 n bytes at ≡ ms
   matrices-read n ms e fits =
       held-reads (listAt matrixAt 64 n) (listAt-skips matrixAt 64 matrixAt-skips n) (rw e at (matrices-start noMatrix ms (rw e fits)))
 
-  pub lights-read : (n : ℕ) (ls : List D3DLIGHT9) → length ls ≡ n → ((i : ℕ) → i < n → lightFits (getD ls i defaultLight)) → Holds bytes (field at (listBytes lightBytes ls))
+  pub lights-read : (n : ℕ) (ls : List D3DLIGHT9) → length ls ≡ n → ((i : ℕ) → i < n → lightFits (getD ls i defaultLight)) → HoldsField bytes (field at (listBytes lightBytes ls))
       → listAt lightAt 104 n bytes at ≡ ls
   lights-read n ls e fits =
       held-reads (listAt lightAt 104 n) (listAt-skips lightAt 104 lightAt-skips n) (rw e at (lights-start defaultLight ls (rw e fits)))
 
-  pub entries-read : (n : ℕ) (es : List OverflowLight) → length es ≡ n → ((i : ℕ) → i < n → entryFits (getD es i zeroEntry)) → Holds bytes (field at (listBytes entryBytes es))
+  pub entries-read : (n : ℕ) (es : List OverflowLight) → length es ≡ n → ((i : ℕ) → i < n → entryFits (getD es i zeroEntry)) → HoldsField bytes (field at (listBytes entryBytes es))
       → listAt entryAt 112 n bytes at ≡ es
   entries-read n es e fits =
       held-reads (listAt entryAt 112 n) (listAt-skips entryAt 112 entryAt-skips n) (rw e at (entries-start zeroEntry es (rw e fits)))

@@ -11,13 +11,13 @@ use Rattle.codec.specs.Little.{littleBytes, littleNumber, numberAt, Bytes}
 use Rattle.codec.proofs.Laws.Little.{length-littleBytes, littleNumber-littleBytes, littleBytes-littleNumber}
 use Rattle.image_lists.specs.Lists.{listBytes, listAt}
 use Rattle.image.specs.Table.{Field, tableBytes, Tiles}
-use Rattle.image.proofs.Held.{Holds}
+use Rattle.image.proofs.Held.{HoldsField}
 
 -- v is at the place
 abbrev pub IsAt : List ℕ → List ℕ → ℕ → Type 0
 IsAt v bytes at = take (length v) (drop at bytes) ≡ v
 
-pub held-is : {bytes : List ℕ} {f : Field} → Holds bytes f → IsAt (f .bytes) bytes (f .place)
+pub held-is : {bytes : List ℕ} {f : Field} → HoldsField bytes f → IsAt (f .bytes) bytes (f .place)
 held-is {f = f} h =
     rw (h .is)
     (ap (take (length (f .bytes))) (drop-at (h .front) (f .bytes ++ h .behind) (f .place) (h .long)) ∙ take-append-seam (f .bytes) (h .behind))

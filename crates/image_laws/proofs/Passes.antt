@@ -21,9 +21,9 @@ use Rattle.codec.specs.Material.{materialBytes}
 use Rattle.codec.specs.Light.{lightBytes}
 use Rattle.light_table.specs.declared.entry.OverflowLight.{OverflowLight}
 use Rattle.image_lists.specs.Entry.{entryBytes}
-use Rattle.image_reasons.specs.Every.{every}
+use Rattle.image_reasons.specs.Every.{everyBelow}
 use Rattle.image_lists.specs.Lists.{listBytes}
-use Rattle.image_reasons.specs.Tests.{plainAt, nanFree, same, sameByte}
+use Rattle.image_reasons.specs.Tests.{plainAt, nanFree, sameBytes, sameByte}
 use Rattle.image_reasons.proofs.Every.{every-is, every-holds}
 use Rattle.image_laws.proofs.IsAt.{IsAt, byte-is, behind}
 use Rattle.image_laws.proofs.Words.{wordBytes, matrixWords, materialWords, lightFloats, matrix-words, material-words, light-words, entry-words, matrix-plain, material-plain, light-plain, plain-pass}
@@ -65,7 +65,7 @@ module _ (bytes : List ℕ) (at : ℕ) where
           rw o (every-holds (plainAt bytes (at + 4 * a)) b k (i - a) (omega arith))
 
 pub nan-items : (bytes : List ℕ) (at m n : ℕ) → ((i : ℕ) → i < n → nanFree m bytes (at + 4 * m * i) ≡ true) → nanFree (m * n) bytes at ≡ true
-unfolding nanFree every
+unfolding nanFree everyBelow
 nan-items bytes at m zero h = rw mul-zero
 nan-items bytes at m (suc n) h =
     let e : 4 * m * n ≡ 4 * (m * n) = mul-assoc 4 m n in
@@ -73,8 +73,8 @@ nan-items bytes at m (suc n) h =
 
 -- ---- bytes that are at a place
 
-pub is-same : (ws bytes : List ℕ) (at : ℕ) → IsAt ws bytes at → same ws bytes at ≡ true
-unfolding same
+pub is-same : (ws bytes : List ℕ) (at : ℕ) → IsAt ws bytes at → sameBytes ws bytes at ≡ true
+unfolding sameBytes
 is-same ws bytes at h =
     every-is (sameByte ws bytes at) (length ws)
     (λ (i : ℕ) (l : i < length ws). eq-eqb (getD bytes (at + i) 0) (getD ws i 0) (byte-is ws bytes at i h l))

@@ -9,13 +9,11 @@ use lib.Dec.{lit<, ltb}
 use lib.ListN.{getD, getD-replicate}
 use lib.Seq.{getD-drop}
 use borrow.Author.Tests.{ltb-true, ltb-false}
-use Rattle.d3d9_types.specs.declared.light.D3DLIGHT9.{D3DLIGHT9}
-use Rattle.d3d9_types.specs.declared.material.D3DMATERIAL9.{D3DMATERIAL9}
-use Rattle.d3d9_types.specs.declared.matrix.D3DMATRIX.{D3DMATRIX}
 use Rattle.light_table.specs.Entry.{zeroEntry}
 use Rattle.light_table.specs.declared.entry.OverflowLight.{OverflowLight}
 use Rattle.ff_state.specs.State.{dirtyWord}
 use Rattle.ff_state.specs.Valid.{Valid}
+use Rattle.ff_state.proofs.State.{fields-are}
 use Rattle.ff_state.specs.declared.state.FfState.{FfState}
 use Rattle.image_lists.specs.Masks.{setMask, typeMask, slotSet, slotIs}
 use Rattle.image_lists.proofs.Back.{entryFits}
@@ -24,31 +22,6 @@ use Rattle.image.specs.Read.{stateOf, lightsOf, definedOf}
 use Rattle.image.proofs.Format.{valid-sized}
 use Rattle.image_laws.proofs.Masks.{mask-is}
 use Rattle.image_laws.proofs.Fields.{written, number-reads, matrix-reads, material-reads, matrices-read, lights-read, entries-read}
-
--- a state made of a state's fields
-fields-are : (s : FfState) {view projection : D3DMATRIX} {palette texture : List D3DMATRIX} {material : D3DMATERIAL9} {lights : List D3DLIGHT9} {entries : List OverflowLight}
-    {index enabled set defined directional spot count dirty : ℕ} → view ≡ s .view → projection ≡ s .projection → palette ≡ s .«world_palette» → index ≡ s .«world_palette_high_water»
-    → texture ≡ s .«texture_transforms» → material ≡ s .material → lights ≡ s .lights → enabled ≡ s .«light_enabled» → set ≡ s .«light_set_mask» → defined ≡ s .«light_defined_mask»
-    → directional ≡ s .«light_directional_mask» → spot ≡ s .«light_spot_mask» → entries ≡ s .«overflow_lights» → count ≡ s .«overflow_count» → dirty ≡ dirtyWord s
-    → record {
-      view = view;
-      projection = projection;
-      «world_palette» = palette;
-      «world_palette_high_water» = index;
-      «texture_transforms» = texture;
-      material = material;
-      lights = lights;
-      «light_enabled» = enabled;
-      «light_set_mask» = set;
-      «light_defined_mask» = defined;
-      «light_directional_mask» = directional;
-      «light_spot_mask» = spot;
-      «overflow_lights» = entries;
-      «overflow_count» = count;
-      «ff_vs_dirty» = dirty;
-    }
-    ≡ s
-fields-are s a b c d e f g h i j k l m n o = rw (a, b, c, d, e, f, g, h, i, j, k, l, m, n, o)
 
 module _ (s : FfState) (v : Valid s) where
   set-mask-is : setMask (s .«light_defined_mask») (s .lights) ≡ s .«light_set_mask»

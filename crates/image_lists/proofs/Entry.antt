@@ -16,7 +16,7 @@ use Rattle.codec.proofs.Inside.{Skips, Starts, inside}
 use Rattle.codec.proofs.Laws.Little.{littleNumber-littleBytes, numberAt-skips}
 use Rattle.codec.proofs.Laws.Light.{lightAt-skips, lightAt-starts}
 use Rattle.d3d9_types.specs.declared.light.D3DLIGHT9.{D3DLIGHT9}
-use Rattle.light_table.specs.Entry.{entry}
+use Rattle.light_table.specs.Entry.{lightEntry}
 use Rattle.light_table.specs.declared.entry.OverflowLight.{OverflowLight}
 use Rattle.image_lists.specs.Entry.{entryBytes, entryAt}
 
@@ -28,7 +28,7 @@ pub entryAt-skips : Skips entryAt
 unfolding entryAt
 entryAt-skips p q n = simp (add-assoc, numberAt-skips, lightAt-skips)
 
-comes-back : (e : OverflowLight) (i n : ℕ) (l : D3DLIGHT9) → i ≡ e .index → n ≡ e .enabled → l ≡ e .light → entry i n l ≡ e
+comes-back : (e : OverflowLight) (i n : ℕ) (l : D3DLIGHT9) → i ≡ e .index → n ≡ e .enabled → l ≡ e .light → lightEntry i n l ≡ e
 comes-back e i n l p q r = rw (p, q, r)
 
 pub entryAt-starts : {e : OverflowLight} → e .index < 2 ^ 32 → e .enabled < 2 ^ 32 → lightFits (e .light) → Starts entryAt (entryBytes e) e

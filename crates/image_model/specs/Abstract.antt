@@ -12,7 +12,7 @@ use Rattle.codec.specs.Material.{materialAt}
 use Rattle.codec.specs.Light as Codec
 use Rattle.words.specs.Bits.{hasBit}
 use Rattle.d3d9_model.specs.State.{AbstractState, AbstractLight}
-use Rattle.d3d9_model.specs.Lights.{lightAt}
+use Rattle.d3d9_model.specs.Lights.{indexedLight}
 use Rattle.image_lists.specs.Lists.{listAt}
 use Rattle.image_reasons.specs.Reasons.{countOf, refused}
 
@@ -26,11 +26,11 @@ imageMatrix bytes n =
     identity)))
 
 -- "lights 17,092, enabled byte 17,924, defined byte 17,925": whether slot i is defined, and its light
-abbrev pub slotDefined : List ℕ → ℕ → Bool
-slotDefined bytes i = hasBit (numberAt 1 bytes 17_925) i
+abbrev pub imageSlotDefined : List ℕ → ℕ → Bool
+imageSlotDefined bytes i = hasBit (numberAt 1 bytes 17_925) i
 
-abbrev pub slotLight : List ℕ → ℕ → AbstractLight
-slotLight bytes i = lightAt i (hasBit (numberAt 1 bytes 17_924) i) (Codec.lightAt bytes (17_092 + 104 * i))
+abbrev pub imageSlotLight : List ℕ → ℕ → AbstractLight
+imageSlotLight bytes i = indexedLight i (hasBit (numberAt 1 bytes 17_924) i) (Codec.lightAt bytes (17_092 + 104 * i))
 
 -- of some indices, the lights of those that are defined
 unfoldable pub definedAmong : (ℕ → Bool) → (ℕ → AbstractLight) → List ℕ → List AbstractLight
@@ -39,12 +39,12 @@ definedAmong defined light (i ∷ is) = cond (defined i) (light i ∷ definedAmo
 
 -- an entry "of index u32, enable u32, light"
 unfoldable pub entryLight : List ℕ → ℕ → AbstractLight
-entryLight bytes at = lightAt (numberAt 4 bytes at) (not (eqb (numberAt 4 bytes (at + 4)) 0)) (Codec.lightAt bytes (at + 8))
+entryLight bytes at = indexedLight (numberAt 4 bytes at) (not (eqb (numberAt 4 bytes (at + 4)) 0)) (Codec.lightAt bytes (at + 8))
 
 -- the defined slots ascending, then the entries in use
 unfoldable pub imageLights : List ℕ → List AbstractLight
 imageLights bytes =
-    definedAmong (slotDefined bytes) (slotLight bytes) (0 ∷ 1 ∷ 2 ∷ 3 ∷ 4 ∷ 5 ∷ 6 ∷ 7 ∷ [])
+    definedAmong (imageSlotDefined bytes) (imageSlotLight bytes) (0 ∷ 1 ∷ 2 ∷ 3 ∷ 4 ∷ 5 ∷ 6 ∷ 7 ∷ [])
     ++ listAt entryLight 112 (countOf bytes) bytes 17_932
 
 -- "highest palette index u16 17,928": "an image that is read brings its own index"

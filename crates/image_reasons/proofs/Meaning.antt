@@ -22,13 +22,13 @@ use Rattle.words.specs.Bits.{hasBit}
 use Rattle.light_table.specs.Overflow.{ascending}
 use Rattle.image_lists.specs.Entry.{entryAt}
 use Rattle.image_lists.specs.Lists.{listAt}
-use Rattle.image_reasons.specs.Tests.{plainWord, plainAt, nanFree, plainLight, lightsNanFree, plainEntry, entriesNanFree, ascends, flags, flagAt, same, sameByte, defaultAt, slotDefault, slotsDefault, bitDefined, bitsDefined}
+use Rattle.image_reasons.specs.Tests.{plainWord, plainAt, nanFree, plainLight, lightsNanFree, plainEntry, entriesNanFree, ascends, flags, flagAt, sameBytes, sameByte, defaultAt, slotDefault, slotsDefault, bitDefined, bitsDefined}
 use Rattle.image_reasons.proofs.Every.{every-holds}
 
-module _ (ws bytes : List ℕ) (at : ℕ) (room : at + length ws ≤ length bytes) (h : same ws bytes at ≡ true) where
+module _ (ws bytes : List ℕ) (at : ℕ) (room : at + length ws ≤ length bytes) (h : sameBytes ws bytes at ≡ true) where
   -- ws stand there
   pub same-is : take (length ws) (drop at bytes) ≡ ws
-  unfolding same
+  unfolding sameBytes
   same-is =
       let rest : length ws ≤ length (drop at bytes) = rw length-drop (omega arith) in
       let long : length (take (length ws) (drop at bytes)) ≡ length ws = length-take-le (length ws) (drop at bytes) rest in

@@ -23,7 +23,7 @@ use Rattle.light_table.specs.Entry.{zeroLight, zeroEntry}
 use Rattle.light_table.specs.declared.entry.OverflowLight.{OverflowLight}
 use Rattle.image_lists.specs.Entry.{entryBytes, entryAt}
 use Rattle.image_lists.specs.Lists.{listAt}
-use Rattle.image_reasons.specs.Tests.{zeros, zeroByte, same, sameByte}
+use Rattle.image_reasons.specs.Tests.{zeros, zeroByte, sameBytes, sameByte}
 use Rattle.image_lists.proofs.Entry.{length-entryBytes, entryAt-skips, entryAt-starts}
 use Rattle.image_reasons.proofs.Every.{every-holds, every-is}
 use Rattle.image_lists.proofs.Reading.{length-listAt, getD-listAt}
@@ -60,8 +60,8 @@ module _ (n : ℕ) (bytes : List ℕ) (at : ℕ) (few : n ≤ 56) (room : at + 6
       let e : at + 112 * k + j ≡ at + 112 * n + o = omega arith in
       rw e (eqb-true (getD bytes (at + 112 * n + o) 0) 0 (every-holds (zeroByte bytes (at + 112 * n)) z h o (omega arith)))
 
-  same-zero : (k : ℕ) → n ≤ k → k < 56 → same (entryBytes zeroEntry) bytes (at + 112 * k) ≡ true
-  unfolding same
+  same-zero : (k : ℕ) → n ≤ k → k < 56 → sameBytes (entryBytes zeroEntry) bytes (at + 112 * k) ≡ true
+  unfolding sameBytes
   same-zero k from to =
       every-is (sameByte (entryBytes zeroEntry) bytes (at + 112 * k)) (length (entryBytes zeroEntry))
       (λ (j : ℕ) (l : j < length (entryBytes zeroEntry)).

@@ -2,6 +2,6 @@
 use Prim.Native.Nat.{ℕ, zero, suc}
 use mathlib.Core.Bool.{Bool, true, _&&_}
 
-unfoldable pub every : ℕ → (ℕ → Bool) → Bool
-every zero p = true
-every (suc n) p = every n p && p n
+unfoldable pub everyBelow : ℕ → (ℕ → Bool) → Bool
+everyBelow zero p = true
+everyBelow (suc n) p = everyBelow n p && p n

@@ -10,7 +10,7 @@ use Rattle.codec.specs.Light.{lightBytes}
 use Rattle.words.specs.Bits.{hasBit}
 use Rattle.light_table.specs.Overflow.{ascending}
 use Rattle.image_lists.specs.Entry.{entryAt}
-use Rattle.image_reasons.specs.Every.{every}
+use Rattle.image_reasons.specs.Every.{everyBelow}
 use Rattle.image_lists.specs.Lists.{listAt}
 
 -- no NaN pattern, or the one that is written: "NaN is 0x7FC00000 only"
@@ -22,27 +22,27 @@ plainAt bytes at k = plainWord (numberAt 4 bytes (at + 4 * k))
 
 -- n floats, each plain
 unfoldable pub nanFree : ℕ → List ℕ → ℕ → Bool
-nanFree n bytes at = every n (plainAt bytes at)
+nanFree n bytes at = everyBelow n (plainAt bytes at)
 
 -- the 25 floats of a light, behind its type, which is a number
 abbrev pub plainLight : List ℕ → ℕ → ℕ → Bool
 plainLight bytes at i = nanFree 25 bytes (at + 104 * i + 4)
 
 unfoldable pub lightsNanFree : List ℕ → ℕ → Bool
-lightsNanFree bytes at = every 8 (plainLight bytes at)
+lightsNanFree bytes at = everyBelow 8 (plainLight bytes at)
 
 -- the same of an entry, whose index and enable are numbers too
 abbrev pub plainEntry : List ℕ → ℕ → ℕ → Bool
 plainEntry bytes at i = nanFree 25 bytes (at + 112 * i + 12)
 
 unfoldable pub entriesNanFree : List ℕ → ℕ → Bool
-entriesNanFree bytes at = every 56 (plainEntry bytes at)
+entriesNanFree bytes at = everyBelow 56 (plainEntry bytes at)
 
 abbrev pub zeroByte : List ℕ → ℕ → ℕ → Bool
 zeroByte bytes at k = eqb (getD bytes (at + k) 0) 0
 
 unfoldable pub zeros : ℕ → List ℕ → ℕ → Bool
-zeros n bytes at = every n (zeroByte bytes at)
+zeros n bytes at = everyBelow n (zeroByte bytes at)
 
 -- "strictly ascending from 8"
 unfoldable pub ascends : ℕ → List ℕ → ℕ → Bool
@@ -53,29 +53,29 @@ flagAt bytes at k = leb (entryAt bytes (at + 112 * k) .enabled) 1
 
 -- n entries, each with an enable of 0 or 1
 unfoldable pub flags : ℕ → List ℕ → ℕ → Bool
-flags n bytes at = every n (flagAt bytes at)
+flags n bytes at = everyBelow n (flagAt bytes at)
 
 abbrev pub sameByte : List ℕ → List ℕ → ℕ → ℕ → Bool
 sameByte ws bytes at k = eqb (getD bytes (at + k) 0) (getD ws k 0)
 
 -- ws stand at the place
-unfoldable pub same : List ℕ → List ℕ → ℕ → Bool
-same ws bytes at = every (length ws) (sameByte ws bytes at)
+unfoldable pub sameBytes : List ℕ → List ℕ → ℕ → Bool
+sameBytes ws bytes at = everyBelow (length ws) (sameByte ws bytes at)
 
 -- "default bit for bit (each 0 is +0.0)"
 unfoldable pub defaultAt : List ℕ → ℕ → Bool
-defaultAt bytes at = same (lightBytes defaultLight) bytes at
+defaultAt bytes at = sameBytes (lightBytes defaultLight) bytes at
 
 abbrev pub slotDefault : ℕ → List ℕ → ℕ → ℕ → Bool
 slotDefault defined bytes at i = hasBit defined i || defaultAt bytes (at + 104 * i)
 
 -- each of eight slots is defined, or holds the default light
 unfoldable pub slotsDefault : ℕ → List ℕ → ℕ → Bool
-slotsDefault defined bytes at = every 8 (slotDefault defined bytes at)
+slotsDefault defined bytes at = everyBelow 8 (slotDefault defined bytes at)
 
 abbrev pub bitDefined : ℕ → ℕ → ℕ → Bool
 bitDefined enabled defined i = not (hasBit enabled i) || hasBit defined i
 
 -- each enabled slot is defined
 unfoldable pub bitsDefined : ℕ → ℕ → Bool
-bitsDefined enabled defined = every 8 (bitDefined enabled defined)
+bitsDefined enabled defined = everyBelow 8 (bitDefined enabled defined)

@@ -2,7 +2,7 @@
 ghost use mathlib.Core.Path.{_≡_};
 ghost use Prim.Native.Nat.{_+_, _*_, _≤_, _<_};
 ghost use lib.ListN.{length};
-ghost use Rattle.image_reasons.specs.Tests.{plainWord, nanFree, lightsNanFree, entriesNanFree, zeros, ascends, flags, same, defaultAt, slotDefault, slotsDefault, bitDefined, bitsDefined};
+ghost use Rattle.image_reasons.specs.Tests.{plainWord, nanFree, lightsNanFree, entriesNanFree, zeros, ascends, flags, sameBytes, defaultAt, slotDefault, slotsDefault, bitDefined, bitsDefined};
 use codec::put_light;
 use codec::u32_at;
 use d3d9_types::default_light;
@@ -116,7 +116,7 @@ pub fn entries_ascending(s: &[u8], at: usize, n: usize) -> bool
 
 fn same_at(s: &[u8], at: usize, ws: &[u8]) -> bool
     requires { ⌜ at + length (now ws) ≤ length (now s) ⌝ }
-    ensures { λ r. ⌜ r ≡ same (now (ws .entry)) (now (s .entry)) at ⌝ }
+    ensures { λ r. ⌜ r ≡ sameBytes (now (ws .entry)) (now (s .entry)) at ⌝ }
 {
     let mut i = 0usize;
     while i < ws.len() {

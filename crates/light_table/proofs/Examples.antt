@@ -4,13 +4,13 @@ use mathlib.Core.Path.{_≡_, refl}
 use mathlib.Core.Bool.{true, false}
 use mathlib.Core.List.{List, [], _∷_, _++_, map}
 use lib.ListN.{take, replicate}
-use Rattle.light_table.specs.Entry.{zeroLight, zeroEntry, entry}
+use Rattle.light_table.specs.Entry.{zeroLight, zeroEntry, lightEntry}
 use Rattle.light_table.specs.Kinds.{contributes}
 use Rattle.light_table.specs.Overflow.{usedCount, lowerBound, findEntry, insertedAt}
 use Rattle.light_table.specs.declared.entry.OverflowLight.{OverflowLight}
 
 abbrev two : List OverflowLight
-two = entry 9 1 zeroLight ∷ entry 12 0 zeroLight ∷ []
+two = lightEntry 9 1 zeroLight ∷ lightEntry 12 0 zeroLight ∷ []
 
 -- where an index stands, or would stand, beside 9 and 12
 places : (map (λ i. findEntry two i .at) (8 ∷ 9 ∷ 10 ∷ 12 ∷ 13 ∷ []) ≡ 0 ∷ 0 ∷ 1 ∷ 1 ∷ 2 ∷ [])
@@ -18,7 +18,7 @@ places : (map (λ i. findEntry two i .at) (8 ∷ 9 ∷ 10 ∷ 12 ∷ 13 ∷ []) 
 unfolding findEntry lowerBound
 places = (refl, refl)
 
-between : map (λ e. e .index) (take 4 (insertedAt 1 (entry 10 1 zeroLight) (two ++ replicate 54 zeroEntry))) ≡ 9 ∷ 10 ∷ 12 ∷ 0 ∷ []
+between : map (λ e. e .index) (take 4 (insertedAt 1 (lightEntry 10 1 zeroLight) (two ++ replicate 54 zeroEntry))) ≡ 9 ∷ 10 ∷ 12 ∷ 0 ∷ []
 unfolding insertedAt zeroEntry
 between = refl
 

@@ -25,8 +25,8 @@ zeroLight =
     }
 
 -- an entry of the overflow table; an unused one is all zeros
-abbrev pub entry : ℕ → ℕ → D3DLIGHT9 → OverflowLight
-entry i e l = record { index = i; enabled = e; light = l }
+abbrev pub lightEntry : ℕ → ℕ → D3DLIGHT9 → OverflowLight
+lightEntry i e l = record { index = i; enabled = e; light = l }
 
 unfoldable pub zeroEntry : OverflowLight
-zeroEntry = entry 0 0 zeroLight
+zeroEntry = lightEntry 0 0 zeroLight

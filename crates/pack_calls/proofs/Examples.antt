@@ -15,7 +15,7 @@ use Rattle.sections.specs.RowCount as RowCount
 use Rattle.sections.specs.RowCount.{lightingReach, textureReach, paletteReach}
 use Rattle.sections.specs.declared.key.FfVsKey.{FfVsKey}
 use Rattle.pack_calls.specs.Key.{keyOf}
-use Rattle.pack_calls.specs.RowCounts.{ffVsRowCount}
+use Rattle.pack_calls.specs.RowCounts.{hostRowCount}
 
 record Case : Type 0 where
   key : FfVsKey
@@ -55,7 +55,7 @@ counts-right = tt
 module _ (image : List ℕ) (h : refused image ≡ false) (out : ℕ) where
   abbrev Counted : List Case → Type 0
   Counted [] = Unit {0}
-  Counted (c ∷ cs) = (ffVsRowCount image (c .key) out ≡ answer 0 (c .rows)) × Counted cs
+  Counted (c ∷ cs) = (hostRowCount image (c .key) out ≡ answer 0 (c .rows)) × Counted cs
 
   counted : (cs : List Case) → T (every cs) → Counted cs
   counted [] all = tt

@@ -12,14 +12,14 @@ use Rattle.sections.specs.declared.sections.Section.{Section}
 use Rattle.ff_state.specs.declared.state.FfState.{FfState}
 use Rattle.sections.specs.declared.key.FfVsKey.{FfVsKey}
 use Rattle.packing.specs.Inputs.{maskAccepted, inputsOf}
-use Rattle.packing.specs.Pack.{Outcome, outcome, packInputs, packSection, packNumber, stateRows, stateCount}
+use Rattle.packing.specs.Pack.{PackOutcome, packOutcome, packInputs, packSection, packNumber, stateRows, stateCount}
 use Rattle.packing.specs.declared.answer.PackAnswer.{PackAnswer}
 use Rattle.packing.specs.declared.answer.PackAnswer.the-variants.{Packed, WrongMask}
 use Rattle.pack_calls.specs.Fill.{maskNumber}
 
 -- the outcome past the length, by the mask
-abbrev byMask : Bool → List Float → List Float → Outcome
-byMask b rows fl = cond b (outcome Packed rows) (outcome WrongMask fl)
+abbrev byMask : Bool → List Float → List Float → PackOutcome
+byMask b rows fl = cond b (packOutcome Packed rows) (packOutcome WrongMask fl)
 
 answer-by : (b : Bool) (rows fl : List Float) → byMask b rows fl .answer ≡ cond b Packed WrongMask
 answer-by true rows fl = refl
@@ -35,13 +35,13 @@ module _ (σ : Section) (s : FfState) (k : FfVsKey) (fl : List Float) (long : le
   unfolding packSection packInputs
   past = rw (eq-eqb (length fl) (4 * stateCount σ s k) long)
 
-  module _ {a : PackAnswer} {xs : List Float} (e : outcome a xs ≡ packSection σ s k fl) where
+  module _ {a : PackAnswer} {xs : List Float} (e : packOutcome a xs ≡ packSection σ s k fl) where
     pub number-is : packNumber a ≡ maskNumber σ k s
     number-is =
-        ap (λ (o : Outcome). packNumber (o .answer)) (e ∙ past)
+        ap (λ (o : PackOutcome). packNumber (o .answer)) (e ∙ past)
         ∙ ap packNumber (answer-by (maskAccepted σ k (inputsOf s)) (stateRows σ s k) fl)
 
     pub rows-are : maskNumber σ k s ≡ 0 → xs ≡ stateRows σ s k
     rows-are h =
-        ap (λ (o : Outcome). o .floats) (e ∙ past)
+        ap (λ (o : PackOutcome). o .floats) (e ∙ past)
         ∙ rows-by (maskAccepted σ k (inputsOf s)) (stateRows σ s k) fl h

@@ -12,5 +12,5 @@ use Rattle.packing.specs.Inputs.{inputsOf}
 abbrev pub ffSectionRows : Section → List ℕ → FfVsKey → ℕ → Answer ℕ
 ffSectionRows σ image k = reading none (λ s. stateCount σ s k) 0 image
 
-abbrev pub ffVsRowCount : List ℕ → FfVsKey → ℕ → Answer ℕ
-ffVsRowCount image k = reading none (λ s. RowCount.ffVsRowCount k (inputsOf s .textureMask)) 0 image
+abbrev pub hostRowCount : List ℕ → FfVsKey → ℕ → Answer ℕ
+hostRowCount image k = reading none (λ s. RowCount.ffVsRowCount k (inputsOf s .textureMask)) 0 image

@@ -2,7 +2,7 @@
 ghost use mathlib.Core.Path.{_≡_};
 ghost use Rattle.calls.specs.Answer.{answer};
 ghost use Rattle.pack_calls.specs.Key.{keyOf};
-ghost use Rattle.pack_calls.specs.RowCounts.{ffSectionRows, ffVsRowCount};
+ghost use Rattle.pack_calls.specs.RowCounts.{ffSectionRows, hostRowCount};
 use crate::key::key_of;
 use image_reasons::image_refused;
 use sections::FfVsKey;
@@ -22,7 +22,7 @@ fn rows_keyed(section: Section, image: &[u8], key: FfVsKey, out: &mut u32) -> u3
 }
 
 fn count_keyed(image: &[u8], key: FfVsKey, out: &mut u32) -> u32
-    ensures { λ r. ⌜ answer r (now (out .exit)) ≡ ffVsRowCount (now (image .entry)) key (now (out .entry)) ⌝ }
+    ensures { λ r. ⌜ answer r (now (out .exit)) ≡ hostRowCount (now (image .entry)) key (now (out .entry)) ⌝ }
 {
     if image_refused(image) {
         return 9;
@@ -70,7 +70,7 @@ pub fn vs_row_count(
     vertex_blend_count: u8,
     out: &mut u32,
 ) -> u32
-    ensures { λ r. ⌜ answer r (now (out .exit)) ≡ ffVsRowCount (now (image .entry)) (keyOf «has_rhw» «lighting_enabled» «specular_enable» «vertex_blend_indexed» «light_active_mask» «fog_mode» «vertex_blend_count») (now (out .entry)) ⌝ }
+    ensures { λ r. ⌜ answer r (now (out .exit)) ≡ hostRowCount (now (image .entry)) (keyOf «has_rhw» «lighting_enabled» «specular_enable» «vertex_blend_indexed» «light_active_mask» «fog_mode» «vertex_blend_count») (now (out .entry)) ⌝ }
 {
     let key = key_of(
         has_rhw,

@@ -23,12 +23,12 @@ use Rattle.sections.specs.Key.{SameShape, lightLimit}
 use Rattle.sections.specs.Counts.{sectionRows}
 use Rattle.sections.specs.declared.key.FfVsKey.{FfVsKey}
 use Rattle.packing.specs.Inputs.{Inputs, packedRows, maskAccepted, inputsOf, packedLights}
-use Rattle.packing.specs.Pack.{Outcome, outcome, packInputs, packSection, inputRows, stateCount}
+use Rattle.packing.specs.Pack.{PackOutcome, packOutcome, packInputs, packSection, inputRows, stateCount}
 use Rattle.packing.specs.declared.answer.PackAnswer.the-variants.{Packed, WrongLength, WrongMask}
 
 -- an outcome by its three parts
-abbrev outcomeOf : List Float → ℕ → Bool → List Row → Outcome
-outcomeOf dst n m rs = cond (eqb (length dst) (4 * n)) (cond m (outcome Packed (floats rs)) (outcome WrongMask dst)) (outcome WrongLength dst)
+abbrev outcomeOf : List Float → ℕ → Bool → List Row → PackOutcome
+outcomeOf dst n m rs = cond (eqb (length dst) (4 * n)) (cond m (packOutcome Packed (floats rs)) (packOutcome WrongMask dst)) (packOutcome WrongLength dst)
 
 -- ---- the state
 

@@ -51,12 +51,12 @@ pub few : (ls : List D3DLIGHT9) → length (take 8 ls) ≤ 8
 few ls = simp length-take (min-le-left 8 (length ls))
 
 -- what the key and the inputs have to be: u8 numbers, 256 world matrices, no texture stage
-pub record Sized (k : FfVsKey) (i : Inputs) : Type 0 where
+pub record SizedInputs (k : FfVsKey) (i : Inputs) : Type 0 where
   pub count : k .«vertex_blend_count» < 256
   pub palette : length (i .palette) ≡ 256
   pub textures : i .textureMask ≡ 0
 
-module _ (k : FfVsKey) (i : Inputs) (z : Sized k i) where
+module _ (k : FfVsKey) (i : Inputs) (z : SizedInputs k i) where
   pub lights-length : k .«light_active_mask» ≡ lowBits (length (packedLights k i)) → 6 * length (packedLights k i) ≡ lightCount k
   unfolding lightCount
   lights-length e = rw (e, places-low (length (packedLights k i)) (few (i .lights))) (mul-comm 6 (length (packedLights k i)))

@@ -11,17 +11,17 @@ use Rattle.sections.specs.declared.sections.Section.{Section}
 use Rattle.ff_state.specs.declared.state.FfState.{FfState}
 use Rattle.sections.specs.declared.key.FfVsKey.{FfVsKey}
 use Rattle.packing.specs.Inputs.{maskAccepted, inputsOf}
-use Rattle.packing.specs.Pack.{outcome, packInputs, stateRows, packSection, stateCount}
+use Rattle.packing.specs.Pack.{packOutcome, packInputs, stateRows, packSection, stateCount}
 use Rattle.packing.specs.declared.answer.PackAnswer.the-variants.{Packed, WrongLength, WrongMask}
 
 -- what is known once the test of the length has passed
 pub record Passed (σ : Section) (s : FfState) (k : FfVsKey) (dst : List Float) : Type 0 where
   pub long : length dst ≡ 4 * stateCount σ s k
-  pub another-mask : maskAccepted σ k (inputsOf s) ≡ false → outcome WrongMask dst ≡ packSection σ s k dst
-  pub packs : maskAccepted σ k (inputsOf s) ≡ true → (xs : List Float) → xs ≡ stateRows σ s k → outcome Packed xs ≡ packSection σ s k dst
+  pub another-mask : maskAccepted σ k (inputsOf s) ≡ false → packOutcome WrongMask dst ≡ packSection σ s k dst
+  pub packs : maskAccepted σ k (inputsOf s) ≡ true → (xs : List Float) → xs ≡ stateRows σ s k → packOutcome Packed xs ≡ packSection σ s k dst
 
 module _ (σ : Section) (s : FfState) (k : FfVsKey) (dst : List Float) {b : Bool} (tested : b ≡ eqb (length dst) (4 * stateCount σ s k)) where
-  pub failed : not b ≡ true → outcome WrongLength dst ≡ packSection σ s k dst
+  pub failed : not b ≡ true → packOutcome WrongLength dst ≡ packSection σ s k dst
   unfolding packSection packInputs
   failed e = rw (sym tested ∙ not-true b e)
 
@@ -32,5 +32,5 @@ module _ (σ : Section) (s : FfState) (k : FfVsKey) (dst : List Float) {b : Bool
       record {
         long = eqb-true (length dst) (4 * stateCount σ s k) right;
         another-mask = λ m. rw (right, m);
-        packs = λ m xs is. rw (right, m) (ap (outcome Packed) is);
+        packs = λ m xs is. rw (right, m) (ap (packOutcome Packed) is);
       }

@@ -15,24 +15,24 @@ use Rattle.packing.specs.declared.answer.PackAnswer.{PackAnswer}
 use Rattle.packing.specs.declared.answer.PackAnswer.the-variants.{Packed, WrongLength, WrongMask}
 
 -- The answer, and the destination afterwards. A float has one NaN here: which of its bit patterns stands in the destination is left free.
-pub record Outcome : Type 0 where
+pub record PackOutcome : Type 0 where
   pub answer : PackAnswer
   pub floats : List Float
 
-abbrev pub outcome : PackAnswer → List Float → Outcome
-outcome a xs = record { answer = a; floats = xs }
+abbrev pub packOutcome : PackAnswer → List Float → PackOutcome
+packOutcome a xs = record { answer = a; floats = xs }
 
 -- how many rows the section has, by the table
 abbrev pub inputRows : Section → FfVsKey → Inputs → ℕ
 inputRows σ k i = sectionRows σ k (i .textureMask)
 
-unfoldable pub packInputs : Section → FfVsKey → Inputs → List Float → Outcome
+unfoldable pub packInputs : Section → FfVsKey → Inputs → List Float → PackOutcome
 packInputs σ k i dst =
     cond (eqb (length dst) (4 * inputRows σ k i))
-    (cond (maskAccepted σ k i) (outcome Packed (floats (packedRows σ k i))) (outcome WrongMask dst))
-    (outcome WrongLength dst)
+    (cond (maskAccepted σ k i) (packOutcome Packed (floats (packedRows σ k i))) (packOutcome WrongMask dst))
+    (packOutcome WrongLength dst)
 
-unfoldable pub packSection : Section → FfState → FfVsKey → List Float → Outcome
+unfoldable pub packSection : Section → FfState → FfVsKey → List Float → PackOutcome
 packSection σ s k dst = packInputs σ k (inputsOf s) dst
 
 -- the state's rows of a section under a key, and how many they are

@@ -1,7 +1,7 @@
 // Sections other than the lights'. None of these looks at HAS_RHW.
 ghost use mathlib.Core.Path.{_≡_};
 ghost use Rattle.sections.specs.declared.sections.Section.the-variants.{Wv, Proj, Material, Palette, Tt};
-ghost use Rattle.packing.specs.Pack.{outcome, packSection};
+ghost use Rattle.packing.specs.Pack.{packOutcome, packSection};
 use crate::answer::PackAnswer;
 use crate::answer::is_length;
 use ff_state::FfState;
@@ -16,7 +16,7 @@ use sections::Section;
 use sections::palette_matrices;
 
 pub fn fill_wv_section(s: FfState, key: FfVsKey, dst: &mut [f32]) -> PackAnswer
-    ensures { λ r. ⌜ outcome r (now (dst .exit)) ≡ packSection Wv s key (now (dst .entry)) ⌝ }
+    ensures { λ r. ⌜ packOutcome r (now (dst .exit)) ≡ packSection Wv s key (now (dst .entry)) ⌝ }
 {
     if !is_length(Section::Wv, key, NO_TEXTURES, dst.len()) {
         return PackAnswer::WrongLength;
@@ -27,7 +27,7 @@ pub fn fill_wv_section(s: FfState, key: FfVsKey, dst: &mut [f32]) -> PackAnswer
 }
 
 pub fn fill_proj_section(s: FfState, key: FfVsKey, dst: &mut [f32]) -> PackAnswer
-    ensures { λ r. ⌜ outcome r (now (dst .exit)) ≡ packSection Proj s key (now (dst .entry)) ⌝ }
+    ensures { λ r. ⌜ packOutcome r (now (dst .exit)) ≡ packSection Proj s key (now (dst .entry)) ⌝ }
 {
     if !is_length(Section::Proj, key, NO_TEXTURES, dst.len()) {
         return PackAnswer::WrongLength;
@@ -37,7 +37,7 @@ pub fn fill_proj_section(s: FfState, key: FfVsKey, dst: &mut [f32]) -> PackAnswe
 }
 
 pub fn fill_material_section(s: FfState, key: FfVsKey, dst: &mut [f32]) -> PackAnswer
-    ensures { λ r. ⌜ outcome r (now (dst .exit)) ≡ packSection Material s key (now (dst .entry)) ⌝ }
+    ensures { λ r. ⌜ packOutcome r (now (dst .exit)) ≡ packSection Material s key (now (dst .entry)) ⌝ }
 {
     if !is_length(Section::Material, key, NO_TEXTURES, dst.len()) {
         return PackAnswer::WrongLength;
@@ -47,7 +47,7 @@ pub fn fill_material_section(s: FfState, key: FfVsKey, dst: &mut [f32]) -> PackA
 }
 
 pub fn fill_palette_section(s: FfState, key: FfVsKey, dst: &mut [f32]) -> PackAnswer
-    ensures { λ r. ⌜ outcome r (now (dst .exit)) ≡ packSection Palette s key (now (dst .entry)) ⌝ }
+    ensures { λ r. ⌜ packOutcome r (now (dst .exit)) ≡ packSection Palette s key (now (dst .entry)) ⌝ }
 {
     if !is_length(Section::Palette, key, NO_TEXTURES, dst.len()) {
         return PackAnswer::WrongLength;
@@ -60,7 +60,7 @@ pub fn fill_palette_section(s: FfState, key: FfVsKey, dst: &mut [f32]) -> PackAn
 
 // No texture stage is transformed, so there is nothing to write.
 pub fn fill_tt_section(s: FfState, key: FfVsKey, dst: &mut [f32]) -> PackAnswer
-    ensures { λ r. ⌜ outcome r (now (dst .exit)) ≡ packSection Tt s key (now (dst .entry)) ⌝ }
+    ensures { λ r. ⌜ packOutcome r (now (dst .exit)) ≡ packSection Tt s key (now (dst .entry)) ⌝ }
 {
     if !is_length(Section::Tt, key, NO_TEXTURES, dst.len()) {
         return PackAnswer::WrongLength;

@@ -1,7 +1,7 @@
 // The lights' section.
 ghost use mathlib.Core.Path.{_≡_};
 ghost use Rattle.sections.specs.declared.sections.Section.the-variants.{Lights};
-ghost use Rattle.packing.specs.Pack.{outcome, packSection};
+ghost use Rattle.packing.specs.Pack.{packOutcome, packSection};
 use crate::answer::PackAnswer;
 use crate::answer::is_length;
 use ff_lights::resolve_active_lights;
@@ -14,7 +14,7 @@ use sections::Section;
 
 // The length is tested before the mask.
 pub fn fill_lights_section(s: FfState, key: FfVsKey, dst: &mut [f32]) -> PackAnswer
-    ensures { λ r. ⌜ outcome r (now (dst .exit)) ≡ packSection Lights s key (now (dst .entry)) ⌝ }
+    ensures { λ r. ⌜ packOutcome r (now (dst .exit)) ≡ packSection Lights s key (now (dst .entry)) ⌝ }
 {
     if !is_length(Section::Lights, key, NO_TEXTURES, dst.len()) {
         return PackAnswer::WrongLength;

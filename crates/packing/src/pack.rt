@@ -1,6 +1,6 @@
 // A section by its name.
 ghost use mathlib.Core.Path.{_≡_};
-ghost use Rattle.packing.specs.Pack.{outcome, packSection};
+ghost use Rattle.packing.specs.Pack.{packOutcome, packSection};
 use crate::answer::PackAnswer;
 use crate::fill::fill_material_section;
 use crate::fill::fill_palette_section;
@@ -13,7 +13,7 @@ use sections::FfVsKey;
 use sections::Section;
 
 pub fn pack_section(section: Section, s: FfState, key: FfVsKey, dst: &mut [f32]) -> PackAnswer
-    ensures { λ r. ⌜ outcome r (now (dst .exit)) ≡ packSection section s key (now (dst .entry)) ⌝ }
+    ensures { λ r. ⌜ packOutcome r (now (dst .exit)) ≡ packSection section s key (now (dst .entry)) ⌝ }
 {
     match section {
         Section::Wv => {

@@ -9,7 +9,7 @@ use Rattle.d3d9_model.specs.Lights.{abstractActive}
 use Rattle.sections.specs.declared.sections.Section.{Section}
 use Rattle.sections.specs.declared.key.FfVsKey.{FfVsKey}
 use Rattle.packing.specs.Inputs.{Inputs, packedRows}
-use Rattle.packing.specs.Pack.{Outcome, packInputs}
+use Rattle.packing.specs.Pack.{PackOutcome, packInputs}
 
 -- n matrices from a state number on
 unfoldable pub matricesFrom : (ℕ → D3DMATRIX) → ℕ → ℕ → List D3DMATRIX
@@ -32,5 +32,5 @@ abstractInputs a =
 unfoldable pub abstractRows : Section → AbstractState → FfVsKey → List Row
 abstractRows σ a k = packedRows σ k (abstractInputs a)
 
-unfoldable pub abstractPack : Section → AbstractState → FfVsKey → List Float → Outcome
+unfoldable pub abstractPack : Section → AbstractState → FfVsKey → List Float → PackOutcome
 abstractPack σ a k dst = packInputs σ k (abstractInputs a) dst

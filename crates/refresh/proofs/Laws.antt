@@ -17,7 +17,7 @@ use Rattle.ff_state.proofs.Frame.{taken-same}
 use Rattle.sections.specs.declared.key.FfVsKey.{FfVsKey}
 use Rattle.packing.specs.Pack.{stateRows, stateCount}
 use Rattle.refresh.specs.Answer.{refreshAnswer}
-use Rattle.refresh.specs.Mirror.{Outcome, refreshed, refusal, acceptance, refreshBy, refreshMirror}
+use Rattle.refresh.specs.Mirror.{RefreshOutcome, refreshed, refusal, acceptance, refreshBy, refreshMirror}
 use Rattle.refresh.specs.Written.{firstFloat, written}
 use Rattle.refresh.specs.declared.answer.RefreshAnswer.{RefreshAnswer}
 use Rattle.refresh.specs.declared.answer.RefreshAnswer.the-variants.{Accepted}
@@ -34,13 +34,13 @@ module _ (s : FfState) (k : FfVsKey) (m : List Float) (f : refreshAnswer s k (le
   refused-same = sym (refused s k (refreshAnswer s k (length m)) f m)
 
   pub refused-bits : refreshMirror s k m .result .bits ≡ 0
-  refused-bits = ap (λ (o : Outcome). o .result .bits) refused-same
+  refused-bits = ap (λ (o : RefreshOutcome). o .result .bits) refused-same
 
   pub refused-state : refreshMirror s k m .result .state ≡ s
-  refused-state = ap (λ (o : Outcome). o .result .state) refused-same
+  refused-state = ap (λ (o : RefreshOutcome). o .result .state) refused-same
 
   pub refused-mirror : refreshMirror s k m .floats ≡ m
-  refused-mirror = ap (λ (o : Outcome). o .floats) refused-same
+  refused-mirror = ap (λ (o : RefreshOutcome). o .floats) refused-same
 
 -- of a count that is a u8 and 256 world matrices
 module _ (s : FfState) (k : FfVsKey) (m : List Float) (byte : k .«vertex_blend_count» < 256) (palette : length (s .«world_palette») ≡ 256)
@@ -57,15 +57,15 @@ module _ (s : FfState) (k : FfVsKey) (m : List Float) (byte : k .«vertex_blend_
   accepted-is = ap (λ (a : RefreshAnswer). refreshBy a s k m) is
 
   mirror-is : refreshMirror s k m .floats ≡ written sections (dirtyWord s) s k m
-  mirror-is = ap (λ (o : Outcome). o .floats) accepted-is
+  mirror-is = ap (λ (o : RefreshOutcome). o .floats) accepted-is
 
   state-is : refreshMirror s k m .result .state ≡ takeFfVsDirty s .state
-  state-is = ap (λ (o : Outcome). o .result .state) accepted-is
+  state-is = ap (λ (o : RefreshOutcome). o .result .state) accepted-is
 
   -- "The answer is the bits taken."
   pub bits-taken : refreshMirror s k m .result .bits ≡ dirtyWord s
   unfolding takeFfVsDirty
-  bits-taken = ap (λ (o : Outcome). o .result .bits) accepted-is
+  bits-taken = ap (λ (o : RefreshOutcome). o .result .bits) accepted-is
 
   pub dirty-holds : (σ : Section) → hasSection (dirtyWord s) σ ≡ true → Holds (refreshMirror s k m .floats) (firstFloat σ) (stateRows σ s k)
   dirty-holds σ on =

@@ -14,7 +14,7 @@ use Rattle.ff_state.specs.declared.state.FfState.{FfState}
 use Rattle.sections.specs.declared.key.FfVsKey.{FfVsKey}
 use Rattle.sections.proofs.Tiles.{fits-mirror}
 use Rattle.packing.specs.Inputs.{maskAccepted, inputsOf}
-use Rattle.packing.specs.Pack.{Outcome, outcome, packInputs, packSection, stateRows, stateCount}
+use Rattle.packing.specs.Pack.{PackOutcome, packOutcome, packInputs, packSection, stateRows, stateCount}
 use Rattle.packing.specs.declared.answer.PackAnswer.{PackAnswer}
 use Rattle.packing.proofs.Lengths.{floats-length}
 use Rattle.refresh.specs.Written.{firstFloat}
@@ -44,6 +44,6 @@ module _ {s : FfState} {k : FfVsKey} (r : Ready s k) (σ : Section) where
   pub fits : firstFloat σ + length (stateRows σ s k) ≤ 4460
   fits = omega (arith, rows-length, fits-mirror k (inputsOf s .textureMask) (r .count) σ)
 
-  pub packs : (a : PackAnswer) (xs dst : List Float) → length dst ≡ 4 * stateCount σ s k → outcome a xs ≡ packSection σ s k dst → xs ≡ stateRows σ s k
+  pub packs : (a : PackAnswer) (xs dst : List Float) → length dst ≡ 4 * stateCount σ s k → packOutcome a xs ≡ packSection σ s k dst → xs ≡ stateRows σ s k
   unfolding packSection packInputs
-  packs a xs dst long e = ap (λ (o : Outcome). o .floats) e ∙ rw (eq-eqb (length dst) (4 * stateCount σ s k) long, accepted)
+  packs a xs dst long e = ap (λ (o : PackOutcome). o .floats) e ∙ rw (eq-eqb (length dst) (4 * stateCount σ s k) long, accepted)

@@ -14,11 +14,11 @@ use Rattle.refresh.specs.declared.answer.RefreshAnswer.the-variants.{Acc
 use Rattle.refresh.specs.declared.mirror.Refreshed.{Refreshed}
 
 -- What refresh returns, and the mirror afterwards. A float has one NaN here: which of its bit patterns stands in the mirror is left free.
-pub record Outcome : Type 0 where
+pub record RefreshOutcome : Type 0 where
   pub result : Refreshed
   pub floats : List Float
 
-abbrev pub refreshed : Refreshed → List Float → Outcome
+abbrev pub refreshed : Refreshed → List Float → RefreshOutcome
 refreshed r m = record { result = r; floats = m }
 
 abbrev pub refusal : RefreshAnswer → FfState → Refreshed
@@ -28,11 +28,11 @@ abbrev pub acceptance : Taken → Refreshed
 acceptance t = record { answer = Accepted; bits = t .bits; state = t .state }
 
 -- by the answer
-unfoldable pub refreshBy : RefreshAnswer → FfState → FfVsKey → List Float → Outcome
+unfoldable pub refreshBy : RefreshAnswer → FfState → FfVsKey → List Float → RefreshOutcome
 refreshBy Accepted s k m = refreshed (acceptance (takeFfVsDirty s)) (written sections (takeFfVsDirty s .bits) s k m)
 refreshBy WrongLength s k m = refreshed (refusal WrongLength s) m
 refreshBy HasRhw s k m = refreshed (refusal HasRhw s) m
 refreshBy WrongMask s k m = refreshed (refusal WrongMask s) m
 
-unfoldable pub refreshMirror : FfState → FfVsKey → List Float → Outcome
+unfoldable pub refreshMirror : FfState → FfVsKey → List Float → RefreshOutcome
 refreshMirror s k m = refreshBy (refreshAnswer s k (length m)) s k m

@@ -1,29 +1,18 @@
 -- What a host's refresh leaves, by its code: accepted, the number is the dirty bits that the image held and the image the same state with none; refused, all three are as found.
 -- Assumes nothing.
-use Prim.Native.Nat.{ℕ, zero, suc}
-use native.Mathlib.Omega.{arith}
-use mathlib.Core.Path.{_≡_, refl, ap}
+use Prim.Native.Nat.{ℕ}
+use mathlib.Core.Path.{_≡_, ap}
 use mathlib.Core.List.{List}
 use Rattle.ff_state.specs.State.{dirtyWord, withFfVsDirty}
 use Rattle.ff_state.specs.Dirty.{takeFfVsDirty}
 use Rattle.image.specs.Format.{imageBytes}
 use Rattle.image.specs.Read.{stateOf}
-use Rattle.calls.specs.Answer.{answered}
 use Rattle.calls.specs.Call.{callCode}
+use Rattle.calls.proofs.Answers.{new-by-code, old-by-code}
 use Rattle.sections.specs.Sections.{sections}
 use Rattle.sections.specs.declared.key.FfVsKey.{FfVsKey}
 use Rattle.refresh_calls.specs.Written.{writtenBytes}
 use Rattle.refresh_calls.specs.Mirror.{HostRefreshed, left, ffRefreshNumber, ffRefresh}
-
-new-by-code : {A : Type 0} (n : ℕ) (new old : A) → answered n new old .code ≡ 0 → answered n new old .out ≡ new
-unfolding answered
-new-by-code zero new old e = refl
-new-by-code (suc n) new old e = absurd (omega arith)
-
-old-by-code : {A : Type 0} (n : ℕ) (new old : A) → (answered n new old .code ≡ 0 → ⊥) → answered n new old .out ≡ old
-unfolding answered
-old-by-code zero new old f = absurd (f refl)
-old-by-code (suc n) new old f = refl
 
 module _ (image : List ℕ) (k : FfVsKey) (mirror : List ℕ) (out : ℕ) where
   -- "a refusal leaves the image as found"; the mirror and the number too

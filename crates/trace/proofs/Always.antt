@@ -29,7 +29,7 @@ use Rattle.d3d9_model.specs.Operations.{Operation}
 use Rattle.ff_state.specs.Operate.{operate}
 use Rattle.agreement.proofs.Dirty.{taken-valid}
 use Rattle.refresh.specs.Answer.{refreshAnswer, refreshNumber}
-use Rattle.refresh.specs.Mirror.{Outcome, refreshMirror}
+use Rattle.refresh.specs.Mirror.{RefreshOutcome, refreshMirror}
 use Rattle.refresh.specs.Written.{written}
 use Rattle.refresh.specs.declared.answer.RefreshAnswer.the-variants.{Accepted}
 use Rattle.refresh.proofs.Answers.{accepted-fits}
@@ -118,13 +118,13 @@ module _ {w : World} {s : FfState} (inv : Invariant w s) (k : FfVsKey) (fit : Ke
       yes y =
           let taken = number-accepted (refreshAnswer s k (length lent)) (number ∙ y .0) in
           let is = Laws.accepted-is s k lent (fit .count) (inv .valid .palette-length) taken in
-          writes (y .1) (ready-for inv k fit (length lent) taken) (ap (λ (o : Outcome). o .floats) is) (ap (λ (o : Outcome). o .result .state) is)
+          writes (y .1) (ready-for inv k fit (length lent) taken) (ap (λ (o : RefreshOutcome). o .floats) is) (ap (λ (o : RefreshOutcome). o .result .state) is)
 
       no : (refreshRefusal (w .abstract) k (eqb (length lent) 4460) ≡ 0 → ⊥) × (accepts (w .abstract) k (eqb (length lent) 4460) ≡ none)
           → Leaves s k (accepts (w .abstract) k (eqb (length lent) 4460)) lent (refreshMirror s k lent .floats) (value (refreshMirror s k lent .result .state))
       no n =
           let is = Laws.refused-same s k lent (λ (e : refreshAnswer s k (length lent) ≡ Accepted). n .0 (sym number ∙ ap refreshNumber e)) in
-          refuses (n .1) (ap (λ (o : Outcome). o .floats) is) (ap (λ (o : Outcome). o .result .state) is)
+          refuses (n .1) (ap (λ (o : RefreshOutcome). o .floats) is) (ap (λ (o : RefreshOutcome). o .result .state) is)
 
 -- ---- a host's calls
 

@@ -30,7 +30,7 @@ use Rattle.ff_lights.proofs.set_light_at.Reads as set-light-reads
 use Rattle.ff_lights.proofs.set_light_enabled_at.Reads as enable-light-reads
 use Rattle.image_reasons.specs.Length.{imageLength}
 use Rattle.image.specs.Read.{readImage}
-use Rattle.image.specs.Write.{outcome, writeImage}
+use Rattle.image.specs.Write.{writeOutcome, writeImage}
 use Rattle.image.specs.declared.read.ImageRead.{ImageRead}
 use Rattle.image.specs.declared.write.WriteAnswer.{WriteAnswer}
 use Rattle.image.specs.declared.write.WriteAnswer.the-variants.{Written}
@@ -95,7 +95,7 @@ read-image-anchored κs a = (tt, λ r e h. (h, ap (λ (x : ImageRead). x .state)
 pub write-image-anchored : (κs : Lfts 1) (a : Dens κs write-image-kinds.ps)
     → write-image-reads.Asked κs a
     × ((r : WriteAnswer) (e : AtExit (endedOf 1 write-image-kinds.ps write-image-kinds.r) κs) → write-image-reads.Learnt κs a r e
-    → length (now (a .1 .0)) ≡ imageLength → outcome r (now (e .1 .0)) ≡ outcome Written (asImage (value (a .0))))
+    → length (now (a .1 .0)) ≡ imageLength → writeOutcome r (now (e .1 .0)) ≡ writeOutcome Written (asImage (value (a .0))))
 unfolding writeImage asImage
 write-image-anchored κs a = (tt, λ r e h long. h ∙ rw (eq-eqb (length (now (a .1 .0))) imageLength long))
 

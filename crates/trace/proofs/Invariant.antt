@@ -9,13 +9,11 @@ use mathlib.Core.Option.{some}
 use lib.Ieee.{Float}
 use lib.ListN.{length, set, length-set}
 use Rattle.lemmas.proofs.Tests.{never}
-use Rattle.words.specs.Bits.{hasBit}
 use Rattle.ff_state.specs.Dirty.{takeFfVsDirty}
-use Rattle.sections.specs.Sections.{sections, hasSection}
+use Rattle.sections.specs.Sections.{sections}
 use Rattle.ff_state.specs.State.{freshState, dirtyWord}
 use Rattle.ff_state.specs.Valid.{Valid}
 use Rattle.sections.specs.declared.sections.Section.{Section}
-use Rattle.sections.specs.declared.sections.Section.the-variants.{Wv, Proj, Material, Lights, Palette, Tt}
 use Rattle.ff_state.specs.declared.state.FfState.{FfState}
 use Rattle.image_reasons.specs.Reasons.{refused}
 use Rattle.image.specs.Format.{imageBytes}
@@ -29,6 +27,7 @@ use Rattle.sections.specs.declared.key.FfVsKey.{FfVsKey}
 use Rattle.d3d9_model.specs.Operations.{Operation}
 use Rattle.agreement.specs.Agrees.{Agrees}
 use Rattle.ff_state.specs.Operate.{operate, OperationFits}
+use Rattle.agreement.proofs.Marks.{fresh-dirty}
 use Rattle.agreement.proofs.Dirty.{taken-valid, taken-agrees}
 use Rattle.agreement.proofs.Fresh.{fresh-valid, fresh-agrees}
 use Rattle.agreement.proofs.Kept.{valid-kept, agrees-kept}
@@ -84,18 +83,9 @@ module _ {w : World} {s : FfState} (inv : Invariant w s) where
 
 -- ---- the start
 
-all-dirty : (σ : Section) → hasSection (dirtyWord freshState) σ ≡ true
-unfolding freshState hasBit
-all-dirty Wv = refl
-all-dirty Proj = refl
-all-dirty Material = refl
-all-dirty Lights = refl
-all-dirty Palette = refl
-all-dirty Tt = refl
-
 pub begins : (m : List Float) → length m ≡ 4460 → Invariant (start m) freshState
 unfolding start freshTrack
-begins m long = record { stands = refl; agrees = fresh-agrees; valid = fresh-valid; whole = long; tracked = λ σ. dirty (all-dirty σ) }
+begins m long = record { stands = refl; agrees = fresh-agrees; valid = fresh-valid; whole = long; tracked = λ σ. dirty (fresh-dirty .1 σ) }
 
 -- ---- each change of the world
 

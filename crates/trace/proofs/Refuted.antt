@@ -36,7 +36,7 @@ use Rattle.packing_laws.specs.Abstract.{abstractInputs, abstractRows}
 use Rattle.ff_state.specs.Operate.{operate}
 use Rattle.agreement.proofs.Fresh.{fresh-valid}
 use Rattle.refresh.specs.Answer.{refreshAnswer}
-use Rattle.refresh.specs.Mirror.{Outcome, refreshed, refreshMirror}
+use Rattle.refresh.specs.Mirror.{RefreshOutcome, refreshed, refreshMirror}
 use Rattle.refresh.specs.declared.answer.RefreshAnswer.the-variants.{Accepted}
 use Rattle.refresh.proofs.Laws as Laws
 use Rattle.calls.specs.Answer.{Answer, answer}
@@ -74,7 +74,7 @@ accepts-key a = refl
 
 -- ---- it answers as ours does and leaves the mirror as it was
 
-abbrev untouched : FfState → FfVsKey → List Float → Outcome
+abbrev untouched : FfState → FfVsKey → List Float → RefreshOutcome
 untouched s k m = refreshed (refreshMirror s k m .result) m
 
 abbrev writesNothing : Refresher
@@ -137,7 +137,7 @@ host-writes-nothing-refuted claim =
 
 -- ---- it is right while all is dirty, and later only reports bits
 
-abbrev later : FfState → FfVsKey → List Float → Outcome
+abbrev later : FfState → FfVsKey → List Float → RefreshOutcome
 later s k m = cond (eqb (dirtyWord s) 63) (refreshMirror s k m) (untouched s k m)
 
 abbrev rightFirst : Refresher
@@ -276,7 +276,7 @@ module _ (m : List Float) (long : length m ≡ 4460) where
   unfolding asState start slice
   first-state =
       ap asState (refresh-stored ours (start m) key (theMirror m))
-      ∙ ap (λ (o : Outcome). o .result .state) (Laws.accepted-is freshState key m (omega arith) (fresh-valid .palette-length) first-answer)
+      ∙ ap (λ (o : RefreshOutcome). o .result .state) (Laws.accepted-is freshState key m (omega arith) (fresh-valid .palette-length) first-answer)
 
   second-dirty : eqb (dirtyWord (asState (second .stored))) 63 ≡ false
   unfolding asState

@@ -18,7 +18,7 @@ use Rattle.ff_state.specs.Operate.{operate}
 use Rattle.packing_laws.specs.Abstract.{abstractInputs}
 use Rattle.calls.specs.Answer.{Answer}
 use Rattle.call_laws.specs.HostOperations.{hostAnswer, operationOf}
-use Rattle.refresh.specs.Mirror.{Outcome, refreshMirror}
+use Rattle.refresh.specs.Mirror.{RefreshOutcome, refreshMirror}
 use Rattle.refresh_calls.specs.Written.{mirrorFloats}
 use Rattle.refresh_calls.specs.Mirror.{HostRefreshed, ffRefresh}
 use Rattle.trace.specs.Calls.{Lent, theMirror, another, slice, HostCall, operates, refreshes, Call, own, readIn, refresh, overwrite, host, hostOn}
@@ -53,7 +53,7 @@ acceptedKey w Calls.Call.reads = none
 
 -- a refresh by value and by the host; the last number is the one that the host lends for the bits
 pub record Refresher : Type 0 where
-  pub byValue : FfState → FfVsKey → List Float → Outcome
+  pub byValue : FfState → FfVsKey → List Float → RefreshOutcome
   pub byHost : List ℕ → FfVsKey → List ℕ → ℕ → Answer HostRefreshed
 
 -- the two that are proved

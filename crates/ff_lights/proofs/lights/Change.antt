@@ -5,7 +5,7 @@ use mathlib.Core.Bool.{Bool, true, false, cond}
 use lib.ListN.{getD}
 use mir.Val.{boolByte}
 use Rattle.ff_state.specs.Dirty.{dirtied}
-use Rattle.ff_state.specs.Lights.{lightsBit, flag, found, inSlot, entryAt, replaceEntry, insertEntry, changeEntry}
+use Rattle.ff_state.specs.Lights.{lightsBit, flag, found, inSlot, storedEntry, replaceEntry, insertEntry, changeEntry}
 use Rattle.ff_state.specs.declared.state.FfState.{FfState}
 use Rattle.light_table.specs.declared.entry.OverflowLight.{OverflowLight}
 use Rattle.light_table.specs.declared.overflow.Found.{Found}
@@ -30,11 +30,11 @@ module _ (s : FfState) (i : ℕ) (f : Found) (e : f ≡ found s i) (change : Ove
   unfolding changeEntry
   entry-changed d stored =
       ap (λ (x : OverflowLight). replaceEntry s (f .at) (change x)) (entry-there s i f e stored d)
-      ∙ ap (λ (t : Bool). cond t (replaceEntry s (f .at) (change (entryAt s (f .at)))) (insertEntry s (f .at) made)) (sym stored)
+      ∙ ap (λ (t : Bool). cond t (replaceEntry s (f .at) (change (storedEntry s (f .at)))) (insertEntry s (f .at) made)) (sym stored)
       ∙ ap (λ (g : Found). changeEntry s g change made) e
 
   pub entry-made : f .stored ≡ false → insertEntry s (f .at) made ≡ changeEntry s (found s i) change made
   unfolding changeEntry
   entry-made absent =
-      ap (λ (t : Bool). cond t (replaceEntry s (f .at) (change (entryAt s (f .at)))) (insertEntry s (f .at) made)) (sym absent)
+      ap (λ (t : Bool). cond t (replaceEntry s (f .at) (change (storedEntry s (f .at)))) (insertEntry s (f .at) made)) (sym absent)
       ∙ ap (λ (g : Found). changeEntry s g change made) e

@@ -4,7 +4,7 @@ use mathlib.Core.Path.{refl, sym, ap, ap₂, _∙_}
 use Rattle.ff_state.specs.Dirty.{takeFfVsDirty}
 use Rattle.ff_state.specs.declared.dirty.Taken.{Taken}
 use Rattle.image.specs.Format.{imageBytes}
-use Rattle.calls.specs.Bits.{both}
+use Rattle.calls.specs.Bits.{imageAndNumber}
 use Rattle.calls.proofs.Calls.{image-long, image-fits, reading-nine, reading-done}
 use borrow.Author.Needs.{needs}
 use Rattle.calls.proofs.bits.take_ff_vs_dirty.Statement.{statement}
@@ -39,7 +39,7 @@ returns-2 c =
     let s = c .before .before .before .before .before in
     let taken = c .before .before .before .before .take-ff-vs-dirty .ensures ∙ ap takeFfVsDirty (s .state-of .ensures) in
     reading-done _ _ _ _ _ (sym (s .before .before .before .image-refused .ensures) ∙ s .before .before .if1 .left) refl refl
-    (ap₂ both (c .before .before .put-state .ensures ∙ ap (λ (t : Taken). imageBytes (t .state)) taken) (ap (λ (t : Taken). t .bits) taken))
+    (ap₂ imageAndNumber (c .before .before .put-state .ensures ∙ ap (λ (t : Taken). imageBytes (t .state)) taken) (ap (λ (t : Taken). t .bits) taken))
 
 pub take-ff-vs-dirty-spec : {M : Type 1} → statement M
 take-ff-vs-dirty-spec =

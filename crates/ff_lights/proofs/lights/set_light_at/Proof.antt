@@ -4,7 +4,7 @@ use mathlib.Core.Path.{_≡_, _∙_}
 use native.Mathlib.Omega.{arith}
 use borrow.Author.Needs.{needs}
 use borrow.Author.Tests.{lt-ltb, le-ltb}
-use Rattle.light_table.specs.Entry.{entry}
+use Rattle.light_table.specs.Entry.{lightEntry}
 use Rattle.ff_state.specs.Lights.{setLightAt, found}
 use Rattle.light_table.proofs.LowerBound.{used-most}
 use Rattle.ff_state.proofs.Found.{searched, place-most, place-below}
@@ -51,7 +51,7 @@ returns-2 c =
     let at = test .before in
     let a = at .before .before .before .before .args in
     rw (le-ltb _ 8 (at .before .before .before .if1 .left))
-    (c .replace-entry .ensures ∙ entry-changed (a .s) (a .index) (at .find .result) (is-found at) (λ e. entry (e .index) (e .enabled) (a .light)) _ _ (test .if2 .taken))
+    (c .replace-entry .ensures ∙ entry-changed (a .s) (a .index) (at .find .result) (is-found at) (λ e. lightEntry (e .index) (e .enabled) (a .light)) _ _ (test .if2 .taken))
 
 insert-entry-requires : tie.Need-insert-entry-requires
 insert-entry-requires c κs = place-most _ _ (c .before .find .result) (is-found (c .before))
@@ -63,7 +63,7 @@ returns-3 c =
     let at = test .before in
     let a = at .before .before .before .before .args in
     rw (le-ltb _ 8 (at .before .before .before .if1 .left))
-    (c .insert-entry .ensures ∙ entry-made (a .s) (a .index) (at .find .result) (is-found at) _ (entry (a .index) 0 (a .light)) (test .if2 .left))
+    (c .insert-entry .ensures ∙ entry-made (a .s) (a .index) (at .find .result) (is-found at) _ (lightEntry (a .index) 0 (a .light)) (test .if2 .left))
 
 pub set-light-at-spec : {M : Type 1} → statement M
 set-light-at-spec =

@@ -7,7 +7,7 @@ use mir.Val.{boolByte}
 use borrow.Author.Tests.{lt-ltb, le-ltb}
 use Rattle.d3d9_types.specs.Light.{defaultLight}
 use Rattle.d3d9_types.specs.declared.light.D3DLIGHT9.{D3DLIGHT9}
-use Rattle.light_table.specs.Entry.{entry}
+use Rattle.light_table.specs.Entry.{lightEntry}
 use Rattle.ff_state.specs.Lights.{setLightEnabledAt, insertEntry, found}
 use Rattle.light_table.proofs.LowerBound.{used-most}
 use Rattle.ff_state.proofs.Found.{searched, place-most, place-below}
@@ -57,7 +57,7 @@ returns-2 c =
     let at = test .before in
     let a = at .before .before .before .before .args in
     rw (le-ltb _ 8 (at .before .before .before .if1 .left), flag-byte (a .enabled))
-    (c .replace-entry .ensures ∙ entry-changed (a .s) (a .index) (at .find .result) (is-found at) (λ e. entry (e .index) (boolByte (a .enabled)) (e .light)) _ _ (test .if2 .taken))
+    (c .replace-entry .ensures ∙ entry-changed (a .s) (a .index) (at .find .result) (is-found at) (λ e. lightEntry (e .index) (boolByte (a .enabled)) (e .light)) _ _ (test .if2 .taken))
 
 cast-t19 : tie.Need-cast-t19
 cast-t19 c = search needs
@@ -76,8 +76,8 @@ returns-3 c =
     let a = at .before .before .before .before .args in
     rw (le-ltb _ 8 (at .before .before .before .if1 .left), flag-byte (a .enabled))
     (c .insert-entry .ensures
-    ∙ ap (λ (l : D3DLIGHT9). insertEntry (a .s) (at .find .result .at) (entry (a .index) (boolByte (a .enabled)) l)) (c .before .default-light .ensures)
-    ∙ entry-made (a .s) (a .index) (at .find .result) (is-found at) _ (entry (a .index) (boolByte (a .enabled)) defaultLight) (test .if2 .left))
+    ∙ ap (λ (l : D3DLIGHT9). insertEntry (a .s) (at .find .result .at) (lightEntry (a .index) (boolByte (a .enabled)) l)) (c .before .default-light .ensures)
+    ∙ entry-made (a .s) (a .index) (at .find .result) (is-found at) _ (lightEntry (a .index) (boolByte (a .enabled)) defaultLight) (test .if2 .left))
 
 pub set-light-enabled-at-spec : {M : Type 1} → statement M
 set-light-enabled-at-spec =

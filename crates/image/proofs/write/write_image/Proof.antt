@@ -6,7 +6,7 @@ use lib.ListN.{length, length-map}
 use borrow.Author.Tests.{eq-eqb, ne-eqb}
 use Rattle.image_reasons.specs.Length.{imageLength}
 use Rattle.image.specs.Format.{imageTable, imageBytes, Sized}
-use Rattle.image.specs.Write.{outcome, writeImage}
+use Rattle.image.specs.Write.{writeOutcome, writeImage}
 use Rattle.image.specs.declared.write.WriteAnswer.the-variants.{Written}
 use Rattle.image.proofs.Table.{placed-all}
 use Rattle.image.proofs.Format.{image-tiles}
@@ -113,7 +113,7 @@ returns-2 c =
     let m = a .args .dst .now in
     let fit : length m ≡ imageLength = tested (eighth c) .if1 .left in
     rw (eq-eqb (length m) imageLength fit)
-    (ap (outcome Written)
+    (ap (writeOutcome Written)
     (rw (c₁₄ .put-zeros .ensures, c₁₃ .put-entries .ensures, c₁₂ .put-u162 .ensures, c₁₁ .put-u16 .ensures, c₁₀ .put-u84 .ensures, c₉ .put-u83 .ensures, c₈ .put-u82 .ensures, c₇ .put-u8 .ensures, c₆ .put-lights .ensures, c₅ .put-material .ensures, c₄ .put-textures .ensures, c₃ .put-palette .ensures, c₂ .put-matrix2 .ensures, c₁ .put-matrix .ensures)
     (placed-all imageLength (imageTable state) m (image-tiles state (sized a)) fit)))
 

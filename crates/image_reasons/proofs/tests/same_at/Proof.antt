@@ -4,7 +4,7 @@ use Prim.Native.Nat.{_-_}
 use native.Mathlib.Omega.{arith}
 use lib.ListN.{length}
 use borrow.Author.Tests.{eq-eqb, ne-eqb}
-use Rattle.image_reasons.specs.Tests.{same, sameByte}
+use Rattle.image_reasons.specs.Tests.{sameBytes, sameByte}
 use Rattle.image_reasons.proofs.Every.{Passed, begins, goes-on, ends, stops}
 use Rattle.image_reasons.proofs.tests.same_at.Statement.{statement}
 use Rattle.image_reasons.proofs.tests.same_at.Tie as tie
@@ -28,7 +28,7 @@ shared-slice-read-if1-2 : tie.Need-shared-slice-read-if1-2 Inv-loop μ-loop
 shared-slice-read-if1-2 c = omega arith
 
 returns : tie.Need-returns Inv-loop μ-loop
-unfolding same
+unfolding sameBytes
 returns c = stops _ _ (c .before .before .before .before .loop .i) (c .before .before .before .loop-test .taken) (ne-eqb _ _ (c .if1 .taken))
 
 add-i : tie.Need-add-i Inv-loop μ-loop
@@ -41,7 +41,7 @@ loop-again : tie.Need-loop-again Inv-loop μ-loop
 loop-again c = goes-on _ _ (c .before .before .before .before .loop .i) (c .before .before .before .loop-test .taken) (eq-eqb _ _ (c .if1 .left)) (c .before .before .before .before .loop .inv)
 
 returns-2 : tie.Need-returns-2 Inv-loop μ-loop
-unfolding same
+unfolding sameBytes
 returns-2 c = ends _ _ (c .before .loop .i) (c .loop-test .left) (c .before .loop .inv)
 
 pub same-at-spec : {M : Type 1} → statement M

@@ -6,12 +6,12 @@ use lib.Ieee.{Float}
 use Rattle.sections.specs.declared.sections.Section.{Section}
 use Rattle.ff_state.specs.declared.state.FfState.{FfState}
 use Rattle.sections.specs.declared.key.FfVsKey.{FfVsKey}
-use Rattle.packing.specs.Pack.{Outcome, packSection}
+use Rattle.packing.specs.Pack.{PackOutcome, packSection}
 use borrow.Author.Needs.{needs}
 use Rattle.packing.proofs.pack.pack_section.Statement.{statement}
 use Rattle.packing.proofs.pack.pack_section.Tie as tie
 
-named : (σ τ : Section) (s : FfState) (k : FfVsKey) (dst : List Float) {o : Outcome} → σ ≡ τ → o ≡ packSection τ s k dst → o ≡ packSection σ s k dst
+named : (σ τ : Section) (s : FfState) (k : FfVsKey) (dst : List Float) {o : PackOutcome} → σ ≡ τ → o ≡ packSection τ s k dst → o ≡ packSection σ s k dst
 named σ τ s k dst e is = is ∙ ap (λ (x : Section). packSection x s k dst) (sym e)
 
 enum-told : tie.Need-enum-told

@@ -22,8 +22,8 @@ returns : tie.Need-returns
 unfolding multiplyTransform changeAt
 returns c = rw (← c .before .before .slot-of .ensures, c .enum-told .given .1)
 
-matrix-at-requires : tie.Need-matrix-at-requires
-matrix-at-requires c κs = in-range _ _ (sym (c .before .before .before .slot-of .ensures) ∙ c .before .place .given .1)
+place-matrix-requires : tie.Need-place-matrix-requires
+place-matrix-requires c κs = in-range _ _ (sym (c .before .before .before .slot-of .ensures) ∙ c .before .place .given .1)
 
 mat-mul-requires : tie.Need-mat-mul-requires
 mat-mul-requires c κs = search needs
@@ -48,7 +48,7 @@ returns-2 c =
     (ap accepted
     (c .with-dirty .ensures
     ∙ ap₂ dirtied
-    (c .before .before .placed-at .ensures ∙ ap (λ (m : D3DMATRIX). placed (at .before .args .self) p m) (product .mat-mul .ensures ∙ ap (λ (m : D3DMATRIX). matMul m (at .before .args .m)) (product .before .matrix-at .ensures)))
+    (c .before .before .placed-at .ensures ∙ ap (λ (m : D3DMATRIX). placed (at .before .args .self) p m) (product .mat-mul .ensures ∙ ap (λ (m : D3DMATRIX). matMul m (at .before .args .m)) (product .before .place-matrix .ensures)))
     (c .before .place-bits .ensures)))
 
 pub multiply-transform-spec : {M : Type 1} → statement M
@@ -59,7 +59,7 @@ multiply-transform-spec =
     enum-known-place
     enum-told
     returns
-    matrix-at-requires
+    place-matrix-requires
     mat-mul-requires
     placed-at-requires
     place-bits-requires

@@ -20,16 +20,16 @@ returns : tie.Need-returns
 unfolding transformOf readAt
 returns c = rw (← c .before .before .slot-of .ensures, c .enum-told .given .1)
 
-matrix-at-requires : tie.Need-matrix-at-requires
-matrix-at-requires c κs = in-range _ _ (sym (c .before .before .before .slot-of .ensures) ∙ c .before .place .given .1)
+place-matrix-requires : tie.Need-place-matrix-requires
+place-matrix-requires c κs = in-range _ _ (sym (c .before .before .before .slot-of .ensures) ∙ c .before .place .given .1)
 
 returns-2 : tie.Need-returns-2
 unfolding transformOf readAt
 returns-2 c =
     let known = c .before in
-    rw (← known .before .before .before .slot-of .ensures, known .before .place .given .1) (ap Matrix (c .matrix-at .ensures))
+    rw (← known .before .before .before .slot-of .ensures, known .before .place .given .1) (ap Matrix (c .place-matrix .ensures))
 
 pub transform-spec : {M : Type 1} → statement M
 transform-spec =
     tie.close
-    (tie.spec slot-of-requires enum-known-place enum-told returns matrix-at-requires returns-2)
+    (tie.spec slot-of-requires enum-known-place enum-told returns place-matrix-requires returns-2)

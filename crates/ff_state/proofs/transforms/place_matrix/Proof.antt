@@ -1,10 +1,10 @@
--- `ff_state::transforms::matrix_at` meets its contract: each arm reads where `matrixAt` does, at an index in range. Assumes nothing.
+-- `ff_state::transforms::place_matrix` meets its contract: each arm reads where `placeMatrix` does, at an index in range. Assumes nothing.
 use native.Mathlib.Omega.{arith}
 use mathlib.Core.Path.{subst}
 use borrow.Author.Needs.{needs}
-use Rattle.ff_state.specs.Transforms.{InRange, matrixAt}
-use Rattle.ff_state.proofs.transforms.matrix_at.Statement.{statement}
-use Rattle.ff_state.proofs.transforms.matrix_at.Tie as tie
+use Rattle.ff_state.specs.Transforms.{InRange, placeMatrix}
+use Rattle.ff_state.proofs.transforms.place_matrix.Statement.{statement}
+use Rattle.ff_state.proofs.transforms.place_matrix.Tie as tie
 
 enum-told : tie.Need-enum-told
 enum-told c = search needs
@@ -31,23 +31,23 @@ element-copy-out-result-2 : tie.Need-element-copy-out-result-2
 element-copy-out-result-2 c = subst InRange (c .before .place2 .given .1) (c .before .before .before .pre)
 
 returns : tie.Need-returns
-unfolding matrixAt
+unfolding placeMatrix
 returns c = rw (c .before .enum-told .given .1)
 
 returns-2 : tie.Need-returns-2
-unfolding matrixAt
+unfolding placeMatrix
 returns-2 c = rw (c .before .enum-told2 .given .1)
 
 returns-3 : tie.Need-returns-3
-unfolding matrixAt
+unfolding placeMatrix
 returns-3 c = rw (c .before .before .place .given .1)
 
 returns-4 : tie.Need-returns-4
-unfolding matrixAt
+unfolding placeMatrix
 returns-4 c = rw (c .before .before .place2 .given .1)
 
-pub matrix-at-spec : {M : Type 1} → statement M
-matrix-at-spec =
+pub place-matrix-spec : {M : Type 1} → statement M
+place-matrix-spec =
     tie.close
     (tie.spec
     enum-told
