@@ -3,39 +3,19 @@ use native.Mathlib.Nat.{not-suc-le-zero}
 use native.Mathlib.Omega.{arith}
 use mathlib.Core.Path.{_≡_, refl, sym, subst}
 use lib.ListN.{length-replicate, getD-replicate}
-use Rattle.d3d9_types.specs.Numbers.{zero-fits}
-use Rattle.d3d9_types.specs.Color.{black-fits}
-use Rattle.d3d9_types.specs.Light.{defaultLight, lightFits, defaultLight-fits}
-use Rattle.d3d9_types.specs.Matrix.{identity, identity-fits}
-use Rattle.d3d9_types.specs.Material.{defaultMaterial-fits}
+use Rattle.d3d9_types.proofs.Fits.{defaultLight-fits, identity-fits, defaultMaterial-fits}
+use Rattle.d3d9_types.specs.Light.{defaultLight, lightFits}
+use Rattle.d3d9_types.specs.Matrix.{identity}
 use Rattle.d3d9_model.specs.State.{freshAbstract}
 use Rattle.ff_state.specs.State.{freshState, noMatrix}
-use Rattle.light_table.specs.Entry.{zeroLight, zeroEntry}
+use Rattle.light_table.specs.Entry.{zeroEntry}
+use Rattle.light_table.proofs.Entry.{zeroLight-fits}
 use Rattle.light_table.specs.Overflow.{usedCount, ascending}
 use Rattle.ff_state.specs.Valid.{Valid, SlotsValid, OverflowValid, FloatsValid}
 use Rattle.light_table.specs.declared.entry.OverflowLight.{OverflowLight}
 use Rattle.ff_state.proofs.Fresh.{fresh-palette}
 use Rattle.words.proofs.Words.{has-none}
 use Rattle.agreement.specs.Agrees.{Agrees, definedFrom, stateLights}
-
-zero-light-fits : lightFits zeroLight
-unfolding zeroLight
-zero-light-fits =
-    record {
-      «type_» = omega arith;
-      diffuse = black-fits;
-      specular = black-fits;
-      ambient = black-fits;
-      position = record { x = zero-fits; y = zero-fits; z = zero-fits };
-      direction = record { x = zero-fits; y = zero-fits; z = zero-fits };
-      range = zero-fits;
-      falloff = zero-fits;
-      attenuation0 = zero-fits;
-      attenuation1 = zero-fits;
-      attenuation2 = zero-fits;
-      theta = zero-fits;
-      phi = zero-fits;
-    }
 
 -- every bit of a mask that is 0 is false
 fresh-slots : let s = freshState in SlotsValid (s .lights) (s .«light_enabled») (s .«light_set_mask») (s .«light_defined_mask») (s .«light_directional_mask») (s .«light_spot_mask»)
@@ -75,7 +55,7 @@ fresh-floats =
       texture = λ i h. rw (getD-replicate 8 i identity noMatrix h) identity-fits;
       material = defaultMaterial-fits;
       lights = λ i h. rw (getD-replicate 8 i defaultLight defaultLight h) defaultLight-fits;
-      overflow = λ k h. subst (λ (e : OverflowLight). lightFits (e .light)) (sym (getD-replicate 56 k zeroEntry zeroEntry h)) zero-light-fits;
+      overflow = λ k h. subst (λ (e : OverflowLight). lightFits (e .light)) (sym (getD-replicate 56 k zeroEntry zeroEntry h)) zeroLight-fits;
     }
 
 pub fresh-valid : Valid freshState

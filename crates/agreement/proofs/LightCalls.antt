@@ -7,7 +7,8 @@ use mathlib.Core.List.{List, _++_, map}
 use lib.Dec.{ltb, eqb}
 use lib.ListN.{getD, set}
 use borrow.Author.Tests.{lt-ltb, le-ltb}
-use Rattle.d3d9_types.specs.Light.{defaultLight, lightFits, defaultLight-fits}
+use Rattle.d3d9_types.proofs.Fits.{defaultLight-fits}
+use Rattle.d3d9_types.specs.Light.{defaultLight, lightFits}
 use Rattle.d3d9_types.specs.declared.light.D3DLIGHT9.{D3DLIGHT9}
 use Rattle.d3d9_model.specs.State.{AbstractState, AbstractLight, replacedLights}
 use Rattle.d3d9_model.specs.Lights.{indexedLight, changedAt, lightSet, lightEnabled}
@@ -34,7 +35,7 @@ use Rattle.agreement.proofs.Defined.{defined-below}
 use Rattle.agreement.proofs.Entries.{entries-changed}
 use Rattle.agreement.proofs.Slots.{set-slot-valid, enable-slot-valid}
 use Rattle.agreement.proofs.SlotLights.{set-slot-agrees, enable-slot-agrees}
-use Rattle.agreement.proofs.Overflow.{EntryFits, withEntry, withNewEntry, foundEntry, place-most, entry-used, entry-index, entry-fits, replaced-used, replaced-valid, inserted-is, inserted-valid}
+use Rattle.agreement.proofs.Overflow.{EntryValid, withEntry, withNewEntry, foundEntry, place-most, entry-used, entry-index, entry-fits, replaced-used, replaced-valid, inserted-is, inserted-valid}
 use Rattle.agreement.proofs.Lights.{LightOutcome, in-slot, replaced, inserted, refused, lightOutcome, full-is}
 
 -- ---- what a call is, by its outcome
@@ -84,8 +85,8 @@ by-outcome {s} v i t change made P slot stored absent none = go (lightOutcome v 
         (none r)
 
 module _ {s : FfState} (v : Valid s) (i : ℕ) (t : FfState) (change : OverflowLight → OverflowLight) (made : OverflowLight)
-    (slot-valid : i < 8 → Valid t) (own : (e : OverflowLight) → e .index ≡ i → change e .index ≡ i) (fits : (e : OverflowLight) → EntryFits e → EntryFits (change e))
-    (made-own : made .index ≡ i) (made-fits : EntryFits made) where
+    (slot-valid : i < 8 → Valid t) (own : (e : OverflowLight) → e .index ≡ i → change e .index ≡ i) (fits : (e : OverflowLight) → EntryValid e → EntryValid (change e))
+    (made-own : made .index ≡ i) (made-fits : EntryValid made) where
   call-valid : Valid (call s i t change made .state)
   call-valid =
       by-outcome v i t change made Valid
@@ -157,10 +158,10 @@ flag-read false = refl
 
 module _ {s : FfState} (v : Valid s) (i : ℕ) (small : i < 0x1_0000_0000) where
   module _ (l : D3DLIGHT9) (f : lightFits l) where
-    set-fits : (e : OverflowLight) → EntryFits e → EntryFits (lightEntry (e .index) (e .enabled) l)
+    set-fits : (e : OverflowLight) → EntryValid e → EntryValid (lightEntry (e .index) (e .enabled) l)
     set-fits e h = record { index = h .index; enabled = h .enabled; light = f }
 
-    new-fits : EntryFits (lightEntry i 0 l)
+    new-fits : EntryValid (lightEntry i 0 l)
     new-fits = record { index = small; enabled = omega arith; light = f }
 
     pub set-light-valid : Valid (setLightAt s i l .state)
@@ -178,10 +179,10 @@ module _ {s : FfState} (v : Valid s) (i : ℕ) (small : i < 0x1_0000_0000) where
         g (λ low. set-slot-agrees v i low g l)
 
   module _ (on : Bool) where
-    enable-fits : (e : OverflowLight) → EntryFits e → EntryFits (lightEntry (e .index) (flag on) (e .light))
+    enable-fits : (e : OverflowLight) → EntryValid e → EntryValid (lightEntry (e .index) (flag on) (e .light))
     enable-fits e h = record { index = h .index; enabled = flag-fits on; light = h .light }
 
-    default-fits : EntryFits (lightEntry i (flag on) defaultLight)
+    default-fits : EntryValid (lightEntry i (flag on) defaultLight)
     default-fits = record { index = small; enabled = flag-fits on; light = defaultLight-fits }
 
     pub enable-light-valid : Valid (setLightEnabledAt s i on .state)

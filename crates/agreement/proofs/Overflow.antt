@@ -21,7 +21,7 @@ use Rattle.light_table.proofs.Sorted.{bound-most, stored-below, stored-index, l
 use Rattle.agreement.proofs.Lists.{set-has, put-has}
 
 -- what a program can hold of an entry
-pub record EntryFits (e : OverflowLight) : Type 0 where
+pub record EntryValid (e : OverflowLight) : Type 0 where
   pub index : e .index < 0x1_0000_0000
   pub enabled : e .enabled ≤ 1
   pub light : lightFits (e .light)
@@ -87,7 +87,7 @@ module _ {s : FfState} (v : Valid s) where
     unfolding found
     entry-index = ap (λ (e : OverflowLight). e .index) (sym entry-used) ∙ stored-index (used s) i stored
 
-    pub entry-fits : EntryFits (foundEntry s i)
+    pub entry-fits : EntryValid (foundEntry s i)
     entry-fits =
         let h : found s i .at < s .«overflow_count» = omega (arith, place-used, count-used) in
         record {
@@ -96,7 +96,7 @@ module _ {s : FfState} (v : Valid s) where
           light = v .floats .overflow (found s i .at) (omega (arith, v .overflow .count));
         }
 
-  module _ (i : ℕ) (e : OverflowLight) (own : e .index ≡ i) (fits : EntryFits e) where
+  module _ (i : ℕ) (e : OverflowLight) (own : e .index ≡ i) (fits : EntryValid e) where
     -- ---- the entry of a stored index
 
     module _ (stored : found s i .stored ≡ true) where

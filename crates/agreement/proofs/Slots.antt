@@ -7,8 +7,9 @@ use mathlib.Core.List.{List}
 use lib.Dec.{eqb}
 use lib.ListN.{length, getD, set, length-set}
 use borrow.Author.Tests.{eqb-true, eq-eqb}
+use Rattle.d3d9_types.proofs.Fits.{defaultLight-fits}
 use Rattle.lemmas.proofs.Branch.{branch}
-use Rattle.d3d9_types.specs.Light.{defaultLight, lightFits, defaultLight-fits}
+use Rattle.d3d9_types.specs.Light.{defaultLight, lightFits}
 use Rattle.d3d9_types.specs.declared.light.D3DLIGHT9.{D3DLIGHT9}
 use Rattle.words.specs.Bits.{hasBit, withBit}
 use Rattle.ff_state.specs.State.{withLights, withLightEnabled, withLightSetMask, withLightDefinedMask, withLightDirectionalMask, withLightSpotMask}

@@ -1,8 +1,7 @@
 -- Colours: as rows of four floats, black with alpha 0, and a colour whose parts are f32 values.
 use Rattle.d3d9_types.specs.declared.color.D3DCOLORVALUE.{D3DCOLORVALUE}
 use Rattle.d3d9_types.specs.declared.matrix.Row.{Row}
-use Rattle.d3d9_types.specs.Matrix.{rowFits}
-use Rattle.d3d9_types.specs.Numbers.{zero, floatFits, zero-fits}
+use Rattle.d3d9_types.specs.Numbers.{zero, floatFits}
 
 abbrev pub colorRow : D3DCOLORVALUE → Row
 colorRow c = record { x = c .r; y = c .g; z = c .b; w = c .a }
@@ -18,12 +17,3 @@ pub record colorFits (c : D3DCOLORVALUE) : Type 0 where
   pub g : floatFits (c .g)
   pub b : floatFits (c .b)
   pub a : floatFits (c .a)
-
-pub colorRow-fits : {c : D3DCOLORVALUE} → colorFits c → rowFits (colorRow c)
-colorRow-fits h = record { x = h .r; y = h .g; z = h .b; w = h .a }
-
-pub rowColor-fits : {v : Row} → rowFits v → colorFits (rowColor v)
-rowColor-fits h = record { r = h .x; g = h .y; b = h .z; a = h .w }
-
-pub black-fits : colorFits black
-black-fits = record { r = zero-fits; g = zero-fits; b = zero-fits; a = zero-fits }

@@ -1,9 +1,8 @@
 -- Lights: the default one, and a light whose type is a u32 and whose floats are f32 values.
 use Prim.Native.Nat.{_<_, _^_}
-use lib.Dec.{lit<}
 use Rattle.d3d9_types.specs.declared.light.D3DLIGHT9.{D3DLIGHT9}
-use Rattle.d3d9_types.specs.Numbers.{zero, one, floatFits, zero-fits, one-fits}
-use Rattle.d3d9_types.specs.Color.{black, colorFits, black-fits}
+use Rattle.d3d9_types.specs.Numbers.{zero, one, floatFits}
+use Rattle.d3d9_types.specs.Color.{black, colorFits}
 use Rattle.d3d9_types.specs.Vector.{vectorFits}
 
 -- Document 01, 'Calls that change the state': directional (3), diffuse 1,1,1,0, direction 0,0,1, all else 0
@@ -39,22 +38,3 @@ pub record lightFits (l : D3DLIGHT9) : Type 0 where
   pub attenuation2 : floatFits (l .attenuation2)
   pub theta : floatFits (l .theta)
   pub phi : floatFits (l .phi)
-
-pub defaultLight-fits : lightFits defaultLight
-unfolding defaultLight
-defaultLight-fits =
-    record {
-      «type_» = lit< tt;
-      diffuse = record { r = one-fits; g = one-fits; b = one-fits; a = zero-fits };
-      specular = black-fits;
-      ambient = black-fits;
-      position = record { x = zero-fits; y = zero-fits; z = zero-fits };
-      direction = record { x = zero-fits; y = zero-fits; z = one-fits };
-      range = zero-fits;
-      falloff = zero-fits;
-      attenuation0 = zero-fits;
-      attenuation1 = zero-fits;
-      attenuation2 = zero-fits;
-      theta = zero-fits;
-      phi = zero-fits;
-    }

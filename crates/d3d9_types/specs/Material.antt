@@ -1,7 +1,7 @@
 -- Materials: the default one, and a material whose parts are f32 values.
 use Rattle.d3d9_types.specs.declared.material.D3DMATERIAL9.{D3DMATERIAL9}
-use Rattle.d3d9_types.specs.Numbers.{zero, floatFits, zero-fits}
-use Rattle.d3d9_types.specs.Color.{black, colorFits, black-fits}
+use Rattle.d3d9_types.specs.Numbers.{zero, floatFits}
+use Rattle.d3d9_types.specs.Color.{black, colorFits}
 
 -- Document 01, 'The arithmetic underneath': 17 zeros
 unfoldable pub defaultMaterial : D3DMATERIAL9
@@ -13,8 +13,3 @@ pub record materialFits (m : D3DMATERIAL9) : Type 0 where
   pub specular : colorFits (m .specular)
   pub emissive : colorFits (m .emissive)
   pub power : floatFits (m .power)
-
-pub defaultMaterial-fits : materialFits defaultMaterial
-unfolding defaultMaterial
-defaultMaterial-fits =
-    record { diffuse = black-fits; ambient = black-fits; specular = black-fits; emissive = black-fits; power = zero-fits }

@@ -1,7 +1,7 @@
 -- Matrices: the identity, and a matrix whose entries are f32 values.
 use Rattle.d3d9_types.specs.declared.matrix.Row.{Row}
 use Rattle.d3d9_types.specs.declared.matrix.D3DMATRIX.{D3DMATRIX}
-use Rattle.d3d9_types.specs.Numbers.{zero, one, floatFits, zero-fits, one-fits}
+use Rattle.d3d9_types.specs.Numbers.{zero, one, floatFits}
 
 -- Direct3D's identity, of which document 01's fresh palette is made
 unfoldable pub identity : D3DMATRIX
@@ -24,13 +24,3 @@ pub record matrixFits (m : D3DMATRIX) : Type 0 where
   pub r1 : rowFits (m .r1)
   pub r2 : rowFits (m .r2)
   pub r3 : rowFits (m .r3)
-
-pub identity-fits : matrixFits identity
-unfolding identity
-identity-fits =
-    record {
-      r0 = record { x = one-fits; y = zero-fits; z = zero-fits; w = zero-fits };
-      r1 = record { x = zero-fits; y = one-fits; z = zero-fits; w = zero-fits };
-      r2 = record { x = zero-fits; y = zero-fits; z = one-fits; w = zero-fits };
-      r3 = record { x = zero-fits; y = zero-fits; z = zero-fits; w = one-fits };
-    }

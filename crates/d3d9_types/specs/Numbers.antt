@@ -14,11 +14,3 @@ one = fin false 1 (pos 0)
 -- x is a value of f32
 abbrev pub floatFits : Float → Type 0
 floatFits x = T (fits binary32 x)
-
-pub zero-fits : floatFits zero
-unfolding fits
-zero-fits = tt
-
-pub one-fits : floatFits one
-unfolding fits
-one-fits = tt

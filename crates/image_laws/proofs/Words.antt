@@ -10,8 +10,9 @@ use lib.Ieee.{Float, binary32, isNan, nan, toBits}
 use lib.Ieee.Bits.{ofBits-toBits, toBits-lt, nanBits-is, nanBits-above}
 use lib.ListN.{length, getD}
 use borrow.Author.Tests.{ltb-false, le-leb, eq-eqb}
+use Rattle.d3d9_types.proofs.Fits.{colorRow-fits}
 use Rattle.d3d9_types.specs.Numbers.{floatFits}
-use Rattle.d3d9_types.specs.Color.{colorRow, colorFits, colorRow-fits}
+use Rattle.d3d9_types.specs.Color.{colorRow, colorFits}
 use Rattle.d3d9_types.specs.Light.{lightFits}
 use Rattle.d3d9_types.specs.Material.{materialFits}
 use Rattle.d3d9_types.specs.Matrix.{rowFits, matrixFits}

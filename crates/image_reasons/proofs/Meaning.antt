@@ -11,7 +11,8 @@ use lib.Ieee.Bits.{toBits-ofBits, nanBits-is}
 use lib.ListN.{length, getD, take, drop, length-drop, take-append-drop}
 use lib.Seq.{length-take-le, getD-take, getD-drop, ext-getD}
 use borrow.Author.Tests.{eqb-true, leb-true}
-use Rattle.d3d9_types.specs.Light.{defaultLight, defaultLight-fits}
+use Rattle.d3d9_types.proofs.Fits.{defaultLight-fits}
+use Rattle.d3d9_types.specs.Light.{defaultLight}
 use Rattle.float32.proofs.Nan.{below-is-no-nan}
 use Rattle.codec.specs.Float.{floatAt}
 use Rattle.codec.specs.Little.{numberAt}

@@ -10,9 +10,6 @@ use lib.Ieee.{toBits}
 use lib.ListN.{length, getD, drop, replicate, length-drop, length-replicate, getD-replicate}
 use lib.Seq.{getD-drop, ext-getD}
 use borrow.Author.Tests.{eqb-true, eq-eqb}
-use Rattle.d3d9_types.specs.Numbers.{zero-fits}
-use Rattle.d3d9_types.specs.Color.{black-fits}
-use Rattle.d3d9_types.specs.Light.{lightFits}
 use Rattle.codec.specs.Little.{littleBytes}
 use Rattle.codec.specs.Float.{floatBytes}
 use Rattle.codec.specs.Matrix.{rowBytes}
@@ -20,6 +17,7 @@ use Rattle.codec.specs.Color.{colorBytes}
 use Rattle.codec.specs.Vector.{vectorBytes}
 use Rattle.codec.specs.Light.{lightBytes}
 use Rattle.light_table.specs.Entry.{zeroLight, zeroEntry}
+use Rattle.light_table.proofs.Entry.{zeroLight-fits}
 use Rattle.light_table.specs.declared.entry.OverflowLight.{OverflowLight}
 use Rattle.image_lists.specs.Entry.{entryBytes, entryAt}
 use Rattle.image_lists.specs.Lists.{listAt}
@@ -28,25 +26,6 @@ use Rattle.image_lists.proofs.Entry.{length-entryBytes, entryAt-skips, entryAt-
 use Rattle.image_reasons.proofs.Every.{every-holds, every-is}
 use Rattle.image_lists.proofs.Reading.{length-listAt, getD-listAt}
 use Rattle.image_reasons.proofs.Meaning.{same-reads}
-
-zeroLight-fits : lightFits zeroLight
-unfolding zeroLight
-zeroLight-fits =
-    record {
-      «type_» = lit< tt;
-      diffuse = black-fits;
-      specular = black-fits;
-      ambient = black-fits;
-      position = record { x = zero-fits; y = zero-fits; z = zero-fits };
-      direction = record { x = zero-fits; y = zero-fits; z = zero-fits };
-      range = zero-fits;
-      falloff = zero-fits;
-      attenuation0 = zero-fits;
-      attenuation1 = zero-fits;
-      attenuation2 = zero-fits;
-      theta = zero-fits;
-      phi = zero-fits;
-    }
 
 pub zero-bytes : entryBytes zeroEntry ≡ replicate 112 0
 unfolding entryBytes zeroEntry zeroLight lightBytes colorBytes rowBytes vectorBytes flatten floatBytes littleBytes toBits

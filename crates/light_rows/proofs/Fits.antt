@@ -6,7 +6,8 @@ use lib.Dec.{eqb}
 use lib.IntN.{pos}
 use lib.Ieee.{Float, binary32, fits, lt, ofInt, neg, ofBits}
 use lib.Ieee.Fits.{cond-fits, ofInt-fits, mul-fits, div-fits}
-use Rattle.d3d9_types.specs.Numbers.{zero, one, floatFits, zero-fits}
+use Rattle.d3d9_types.proofs.Fits.{zero-fits}
+use Rattle.d3d9_types.specs.Numbers.{zero, one, floatFits}
 use Rattle.d3d9_types.specs.Matrix.{rowFits}
 use Rattle.d3d9_types.specs.Light.{lightFits}
 use Rattle.d3d9_types.specs.Vector.{vectorFits}

@@ -1,3 +1,4 @@
+pub mod Entry
 pub mod Lists
 pub mod LowerBound
 pub mod Insertion

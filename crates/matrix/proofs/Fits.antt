@@ -5,8 +5,9 @@ use mathlib.Core.Bool.{Bool, true, false, cond}
 use mathlib.Core.List.{List, [], _∷_}
 use lib.Ieee.{Float, binary32, div, fits}
 use lib.Ieee.Fits.{add-fits, mul-fits}
+use Rattle.d3d9_types.proofs.Fits.{identity-fits}
 use Rattle.d3d9_types.specs.Numbers.{one, floatFits}
-use Rattle.d3d9_types.specs.Matrix.{rowFits, matrixFits, identity-fits}
+use Rattle.d3d9_types.specs.Matrix.{rowFits, matrixFits}
 use Rattle.d3d9_types.specs.Vector.{vectorFits}
 use Rattle.d3d9_types.specs.declared.matrix.Row.{Row}
 use Rattle.d3d9_types.specs.declared.matrix.D3DMATRIX.{D3DMATRIX}

@@ -5,9 +5,9 @@ use mathlib.Core.List.{List, [], _∷_, _++_}
 use lib.Ieee.{binary32, nan}
 use lib.Ieee.Fits.{nan-fits}
 use lib.ListN.{getD}
-use Rattle.d3d9_types.specs.Numbers.{floatFits, zero-fits}
+use Rattle.d3d9_types.proofs.Fits.{zero-fits, colorRow-fits}
+use Rattle.d3d9_types.specs.Numbers.{floatFits}
 use Rattle.d3d9_types.specs.Matrix.{rowFits, matrixFits}
-use Rattle.d3d9_types.specs.Color.{colorRow-fits}
 use Rattle.d3d9_types.specs.Material.{materialFits}
 use Rattle.d3d9_types.specs.declared.matrix.Row.{Row}
 use Rattle.d3d9_types.specs.declared.matrix.D3DMATRIX.{D3DMATRIX}

@@ -12,8 +12,9 @@ use lib.Ieee.{Float, nan, binary32, ofInt, ofBits, isNan, toBits}
 use lib.ListN.{length, getD, replicate, length-replicate}
 use borrow.Author.Tests.{eqb-true, eq-eqb}
 use lib.Ieee.Fits.{ofInt-fits}
+use Rattle.d3d9_types.proofs.Fits.{identity-fits}
 use Rattle.lemmas.proofs.Tests.{never, and-false}
-use Rattle.d3d9_types.specs.Matrix.{identity, matrixFits, identity-fits}
+use Rattle.d3d9_types.specs.Matrix.{identity, matrixFits}
 use Rattle.d3d9_types.specs.declared.matrix.D3DMATRIX.{D3DMATRIX}
 use Rattle.codec.specs.Little.{Bytes, littleNumber}
 use Rattle.codec.specs.Float.{floatAt}

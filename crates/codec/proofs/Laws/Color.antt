@@ -4,7 +4,8 @@ use Prim.Native.Nat.{ℕ}
 use mathlib.Core.Path.{_≡_, ap}
 use mathlib.Core.List.{List}
 use lib.ListN.{length}
-use Rattle.d3d9_types.specs.Color.{colorRow, rowColor, colorFits, colorRow-fits, rowColor-fits}
+use Rattle.d3d9_types.proofs.Fits.{colorRow-fits, rowColor-fits}
+use Rattle.d3d9_types.specs.Color.{colorRow, rowColor, colorFits}
 use Rattle.d3d9_types.specs.declared.color.D3DCOLORVALUE.{D3DCOLORVALUE}
 use Rattle.codec.specs.Color.{colorBytes, colorAt}
 use Rattle.codec.proofs.Inside.{Skips, Starts}
