@@ -1,4 +1,4 @@
-//! Our loops, crates/bench_loops and crates/bench_state.
+//! Our loops, crates/bench_loops.
 
 use mtld3d_types::D3DMATRIX;
 

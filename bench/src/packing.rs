@@ -1,4 +1,4 @@
-//! Packing: our fills of a section by value (crates/bench_packing) and over an image (the host's calls), each beside
+//! Packing: our fills of a section by value (crates/bench_loops) and over an image (the host's calls), each beside
 //! the Rust's on the same state under the same key.
 
 use std::hint::black_box;

@@ -1,4 +1,4 @@
-//! Refresh: ours by value (crates/bench_refresh) and by the host, each beside the Rust's fills of the same sections into
+//! Refresh: ours by value (crates/bench_loops) and by the host, each beside the Rust's fills of the same sections into
 //! the same rows. Before each the sections are marked, and that is timed too.
 
 use std::hint::black_box;

@@ -15,7 +15,7 @@ const LIGHT: usize = 104;
 /// The numbers of `key` as they cross.
 pub const KEY: [u8; 7] = [0, 1, 1, 1, 0xFF, 0, 1];
 
-/// Sixteen numbers, as in crates/bench_inputs. Made entry by entry: rows that are first made and then copied cost the
+/// Sixteen numbers, as in crates/bench_loops. Made entry by entry: rows that are first made and then copied cost the
 /// Rust's loops more than a fill of PROJ does.
 pub fn spread(x: f32) -> D3DMATRIX {
     let rows = [x, x * 2.0, x * 3.0, x * 5.0];

@@ -1,5 +1,12 @@
-// Loops over the calls, for bench/ alone: what they compute is proved where the calls are, so the
-// loops carry no contract, and are safe and end at slices of any lengths.
+// Loops over the calls, for bench/ alone. Each holds its state as a local and changes an input at each turn, so that
+// no call can be left out of it. What the calls compute is proved where they are, so the loops carry no contract: they are
+// safe and end, at slices of any lengths and any count.
 mod access;
+mod fills;
+mod inputs;
+mod lights;
 mod matrices;
+mod mirror;
 mod roots;
+mod transforms;
+mod turns;

@@ -1,4 +1,5 @@
 -- The light of an unused entry is made of f32 values: each of its floats is +0. Assumes nothing.
+use lib.Dec.{lit<}
 use Rattle.d3d9_types.specs.Light.{lightFits}
 use Rattle.d3d9_types.proofs.Fits.{zero-fits, black-fits}
 use Rattle.light_table.specs.Entry.{zeroLight}

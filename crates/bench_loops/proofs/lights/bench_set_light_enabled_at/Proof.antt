@@ -1,0 +1,55 @@
+-- `bench_loops::lights::bench_set_light_enabled_at` is safe and ends. The measure is the number of turns left.
+-- Assumes nothing.
+use Prim.Native.Nat.{_-_, _≤_}
+use borrow.Author.Needs.{needs}
+use Rattle.bench_loops.proofs.lights.bench_set_light_enabled_at.Statement.{statement}
+use Rattle.bench_loops.proofs.lights.bench_set_light_enabled_at.Tie as tie
+
+abbrev Inv-loop : tie.InvT-loop
+Inv-loop n index s₀ i₀ s i = i ≤ n
+
+abbrev μ-loop : tie.MeasureT-loop
+μ-loop n index s₀ i₀ s i = n - i
+
+new-requires : tie.Need-new-requires Inv-loop μ-loop
+new-requires c κs = search needs
+
+loop-holds : tie.Need-loop-holds Inv-loop μ-loop
+loop-holds c = search needs
+
+enable-one-requires : tie.Need-enable-one-requires Inv-loop μ-loop
+enable-one-requires c κs = search needs
+
+add-i : tie.Need-add-i Inv-loop μ-loop
+add-i c = search needs
+
+loop-less : tie.Need-loop-less Inv-loop μ-loop
+loop-less c = search needs
+
+loop-again : tie.Need-loop-again Inv-loop μ-loop
+loop-again c = search needs
+
+is-light-enabled-at-requires : tie.Need-is-light-enabled-at-requires Inv-loop μ-loop
+is-light-enabled-at-requires c κs = search needs
+
+cast-result : tie.Need-cast-result Inv-loop μ-loop
+cast-result c = search needs
+
+returns : tie.Need-returns Inv-loop μ-loop
+returns c = search needs
+
+pub bench-set-light-enabled-at-spec : {M : Type 1} → statement M
+bench-set-light-enabled-at-spec =
+    tie.close
+    (tie.spec
+    Inv-loop
+    μ-loop
+    new-requires
+    loop-holds
+    enable-one-requires
+    add-i
+    loop-less
+    loop-again
+    is-light-enabled-at-requires
+    cast-result
+    returns)
