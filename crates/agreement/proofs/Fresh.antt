@@ -9,7 +9,7 @@ use Rattle.d3d9_types.specs.Matrix.{identity}
 use Rattle.d3d9_model.specs.State.{freshAbstract}
 use Rattle.ff_state.specs.State.{freshState, noMatrix}
 use Rattle.light_table.specs.Entry.{zeroEntry}
-use Rattle.light_table.proofs.Entry.{zeroLight-fits}
+use Rattle.light_table.proofs.ZeroLight.{zeroLight-fits}
 use Rattle.light_table.specs.Overflow.{usedCount, ascending}
 use Rattle.ff_state.specs.Valid.{Valid, SlotsValid, OverflowValid, FloatsValid}
 use Rattle.light_table.specs.declared.entry.OverflowLight.{OverflowLight}

@@ -1,4 +1,4 @@
-pub mod State
+pub mod Fields
 pub mod Places
 pub mod Found
 pub mod Room

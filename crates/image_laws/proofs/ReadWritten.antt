@@ -13,7 +13,7 @@ use Rattle.light_table.specs.Entry.{zeroEntry}
 use Rattle.light_table.specs.declared.entry.OverflowLight.{OverflowLight}
 use Rattle.ff_state.specs.State.{dirtyWord}
 use Rattle.ff_state.specs.Valid.{Valid}
-use Rattle.ff_state.proofs.State.{fields-are}
+use Rattle.ff_state.proofs.Fields.{fields-are}
 use Rattle.ff_state.specs.declared.state.FfState.{FfState}
 use Rattle.image_lists.specs.Masks.{setMask, typeMask, slotSet, slotIs}
 use Rattle.image_lists.proofs.Back.{entryFits}

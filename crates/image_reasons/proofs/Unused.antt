@@ -17,7 +17,7 @@ use Rattle.codec.specs.Color.{colorBytes}
 use Rattle.codec.specs.Vector.{vectorBytes}
 use Rattle.codec.specs.Light.{lightBytes}
 use Rattle.light_table.specs.Entry.{zeroLight, zeroEntry}
-use Rattle.light_table.proofs.Entry.{zeroLight-fits}
+use Rattle.light_table.proofs.ZeroLight.{zeroLight-fits}
 use Rattle.light_table.specs.declared.entry.OverflowLight.{OverflowLight}
 use Rattle.image_lists.specs.Entry.{entryBytes, entryAt}
 use Rattle.image_lists.specs.Lists.{listAt}

@@ -1,4 +1,4 @@
-pub mod Entry
+pub mod ZeroLight
 pub mod Lists
 pub mod LowerBound
 pub mod Insertion
