@@ -1,4 +1,3 @@
-pub mod Lists
 pub mod Dirty
 pub mod Fresh
 pub mod Numbers

@@ -18,7 +18,7 @@ use Rattle.ff_state.specs.Valid.{Valid, OverflowValid}
 use Rattle.ff_state.specs.declared.state.FfState.{FfState}
 use Rattle.light_table.specs.declared.entry.OverflowLight.{OverflowLight}
 use Rattle.light_table.proofs.Sorted.{bound-most, stored-below, stored-index, length-inserted, putIn, replaced-ascending, inserted-ascending, inserted-used, inserted-zeros}
-use Rattle.agreement.proofs.Lists.{set-has, put-has}
+use Rattle.lemmas.proofs.Lists.{set-has, put-has}
 
 -- what a program can hold of an entry
 pub record EntryValid (e : OverflowLight) : Type 0 where

@@ -20,7 +20,7 @@ use Rattle.ff_state.specs.Valid.{Valid, slotLight}
 use Rattle.ff_state.specs.declared.state.FfState.{FfState}
 use Rattle.words.proofs.Words.{has-with-bit}
 use Rattle.agreement.specs.Agrees.{Agrees, slotDefined, slotEntry, overflowEntry, stateLights}
-use Rattle.agreement.proofs.Lists.{getD-set}
+use Rattle.lemmas.proofs.Lists.{getD-set}
 use Rattle.agreement.proofs.Defined.{changed-defined}
 use Rattle.agreement.proofs.Entries.{entries-above}
 

@@ -18,7 +18,7 @@ use Rattle.ff_state.specs.Slots.{setSlot, defineSlot, enableSlot}
 use Rattle.ff_state.specs.Valid.{Valid, SlotsValid}
 use Rattle.ff_state.specs.declared.state.FfState.{FfState}
 use Rattle.words.proofs.Words.{has-with-bit, with-bit-lt}
-use Rattle.agreement.proofs.Lists.{getD-set, set-has}
+use Rattle.lemmas.proofs.Lists.{getD-set, set-has}
 
 -- ---- one bit of a mask, and the light beside it
 

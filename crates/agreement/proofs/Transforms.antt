@@ -27,7 +27,7 @@ use Rattle.ff_state.specs.declared.transforms.Place.the-variants.{View, Project
 use Rattle.ff_state.specs.declared.transforms.TransformRead.the-variants as Reads
 use Rattle.agreement.specs.Agrees.{Agrees, stateLights}
 use Rattle.agreement.proofs.Dirty.{dirtied-valid, dirtied-agrees}
-use Rattle.agreement.proofs.Lists.{getD-set, set-has}
+use Rattle.lemmas.proofs.Lists.{getD-set, set-has}
 use Rattle.agreement.proofs.Numbers.{number, Named, place, no-place, named}
 
 -- ---- a matrix stored at a place

@@ -11,7 +11,7 @@ use Rattle.ff_state.specs.Lights.{found, storedEntry}
 use Rattle.ff_state.specs.declared.state.FfState.{FfState}
 use Rattle.light_table.specs.declared.entry.OverflowLight.{OverflowLight}
 use Rattle.light_table.specs.declared.overflow.Found.{Found}
-use Rattle.light_table.proofs.Lists.{getD-default}
+use Rattle.lemmas.proofs.Lists.{getD-default}
 use Rattle.light_table.proofs.LowerBound.{used-most, bound-most, stored-below}
 
 -- the code's search, of the count as it reads and the entries before it

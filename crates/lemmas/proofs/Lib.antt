@@ -1,3 +1,4 @@
 pub mod Branch
 pub mod Tests
 pub mod Options
+pub mod Lists

@@ -1,5 +1,4 @@
 pub mod ZeroLight
-pub mod Lists
 pub mod LowerBound
 pub mod Insertion
 pub mod Sorted

@@ -12,7 +12,7 @@ use borrow.Author.Tests.{lt-ltb, le-ltb, ltb-true, eqb-true}
 use Rattle.light_table.specs.Entry.{zeroEntry}
 use Rattle.light_table.specs.Overflow.{usedCount, lowerBound, findEntry}
 use Rattle.lemmas.proofs.Branch.{branch}
-use Rattle.light_table.proofs.Lists.{getD-default}
+use Rattle.lemmas.proofs.Lists.{getD-default}
 use Rattle.light_table.specs.declared.entry.OverflowLight.{OverflowLight}
 
 module _ (es : List OverflowLight) (n at i : ℕ) (d : OverflowLight) (full : length es ≡ 56) (most : n ≤ 56) (left : at < n) where

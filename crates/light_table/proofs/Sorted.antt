@@ -14,7 +14,7 @@ use Rattle.light_table.specs.Entry.{zeroEntry}
 use Rattle.light_table.specs.Overflow.{lowerBound, findEntry, ascending, insertedAt}
 use Rattle.light_table.specs.declared.entry.OverflowLight.{OverflowLight}
 use Rattle.light_table.specs.declared.overflow.Found.{Found}
-use Rattle.light_table.proofs.Lists.{take-replicate}
+use Rattle.lemmas.proofs.Lists.{take-replicate}
 pub use Rattle.light_table.proofs.LowerBound.{bound-most, stored-below, stored-index}
 pub use Rattle.light_table.proofs.Insertion.{length-inserted}
 

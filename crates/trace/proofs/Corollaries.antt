@@ -15,7 +15,7 @@ use Rattle.sections.specs.declared.sections.Section.the-variants.{Wv, Proj, Mat
 use Rattle.packing.specs.Inputs.{packedRows}
 use Rattle.sections.specs.declared.key.FfVsKey.{FfVsKey}
 use Rattle.d3d9_model.specs.Operations.{mark}
-use Rattle.packing_laws.specs.Abstract.{abstractRows}
+use Rattle.packing_agreement.specs.Abstract.{abstractRows}
 use Rattle.trace.specs.Calls.{Call, own, readIn, refresh, overwrite, host, hostOn, operates}
 use Rattle.call_laws.specs.HostOperations.{isWhole, said, operationOf}
 use Rattle.trace.specs.Calls as Calls

@@ -14,7 +14,7 @@ use Rattle.rows.proofs.Floats.{length-floats}
 use Rattle.sections.specs.Sections.{firstRow}
 use Rattle.sections.specs.declared.key.FfVsKey.{FfVsKey}
 use Rattle.d3d9_model.specs.State.{AbstractState}
-use Rattle.packing_laws.specs.Abstract.{abstractRows}
+use Rattle.packing_agreement.specs.Abstract.{abstractRows}
 use Rattle.refresh.specs.Written.{firstFloat}
 use Rattle.refresh.proofs.Parts.{Holds}
 use Rattle.trace.specs.Count.{alike, alikeAt, rowDiffers, countBelow, differing}

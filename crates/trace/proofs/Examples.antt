@@ -33,7 +33,7 @@ use Rattle.packing.specs.Inputs.{packedRows}
 use Rattle.d3d9_model.specs.State.{AbstractState, freshAbstract}
 use Rattle.d3d9_model.specs.Lights.{lookup, isThere, lightEnabled, changedAt, countBeyond, lights?, activeOf, abstractActive}
 use Rattle.d3d9_model.specs.Operations.{enableLight, full, abstractRefusal, abstractChange, abstractStep}
-use Rattle.packing_laws.specs.Abstract.{matricesFrom, abstractInputs, abstractRows}
+use Rattle.packing_agreement.specs.Abstract.{matricesFrom, abstractInputs, abstractRows}
 use Rattle.trace.specs.Count.{alike, alikeAt, rowDiffers, countBelow, differing}
 
 -- lit, with one light and three matrices

@@ -16,7 +16,7 @@ use Rattle.sections.specs.declared.key.FfVsKey.{FfVsKey}
 use Rattle.packing.specs.Inputs.{Inputs, maskAccepted}
 use Rattle.d3d9_model.specs.State.{AbstractState}
 use Rattle.agreement.specs.Agrees.{Agrees}
-use Rattle.packing_laws.proofs.Agreement.{inputs-agree}
+use Rattle.packing_agreement.proofs.Agreement.{inputs-agree}
 use Rattle.calls.specs.Answer.{orNext, lengthNumber}
 use Rattle.refresh.specs.Answer.{refreshAnswer, refreshNumber}
 use Rattle.refresh.specs.Mirror.{refreshBy, refreshMirror}

@@ -33,7 +33,7 @@ use Rattle.sections.specs.declared.key.FfVsKey.{FfVsKey}
 use Rattle.packing.specs.Inputs.{packedRows, maskAccepted}
 use Rattle.d3d9_model.specs.State.{AbstractState, freshAbstract}
 use Rattle.d3d9_model.specs.Operations.{Operation, setTransform, known, abstractRefusal, abstractChange, abstractStep}
-use Rattle.packing_laws.specs.Abstract.{abstractInputs, abstractRows}
+use Rattle.packing_agreement.specs.Abstract.{abstractInputs, abstractRows}
 use Rattle.ff_state.specs.Operate.{operate}
 use Rattle.agreement.proofs.Fresh.{fresh-valid}
 use Rattle.refresh.specs.Answer.{refreshAnswer}

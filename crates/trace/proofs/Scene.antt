@@ -28,7 +28,7 @@ use Rattle.d3d9_model.specs.State.{AbstractState}
 use Rattle.d3d9_model.specs.Operations.{Operation, setTransform, mark, abstractRefusal}
 use Rattle.d3d9_model.specs.Marks.{marksSection}
 use Rattle.ff_state.specs.Operate as Operate
-use Rattle.packing_laws.specs.Abstract.{abstractInputs, abstractRows}
+use Rattle.packing_agreement.specs.Abstract.{abstractInputs, abstractRows}
 use Rattle.trace.specs.Calls.{theMirror, slice, Call, own, refresh, overwrite}
 use Rattle.trace.specs.Count.{rowsUnder}
 use Rattle.trace.specs.World.{World, Track, freshTrack, trackMarked, isRow, hits, trackOverwritten, start, tracking, marks, wrongRows}

@@ -33,8 +33,8 @@ use Rattle.d3d9_model.specs.Operations.{Operation, abstractStep}
 use Rattle.agreement.specs.Agrees.{Agrees}
 use Rattle.ff_state.specs.Operate.{operate, OperationFits}
 use Rattle.agreement.proofs.Kept.{valid-kept, agrees-kept}
-use Rattle.packing_laws.specs.Abstract.{abstractInputs, abstractRows}
-use Rattle.packing_laws.proofs.Agreement.{inputs-agree, rows-agree}
+use Rattle.packing_agreement.specs.Abstract.{abstractInputs, abstractRows}
+use Rattle.packing_agreement.proofs.Agreement.{inputs-agree, rows-agree}
 use Rattle.refresh.specs.Written.{firstFloat, written}
 use Rattle.refresh.proofs.Packed.{Ready, rows-length}
 use Rattle.refresh.proofs.Parts.{Holds}

@@ -10,7 +10,7 @@ use Rattle.rows.specs.Rows.{floats}
 use Rattle.sections.specs.Sections.{firstRow}
 use Rattle.sections.specs.declared.key.FfVsKey.{FfVsKey}
 use Rattle.d3d9_model.specs.State.{AbstractState}
-use Rattle.packing_laws.specs.Abstract.{abstractRows}
+use Rattle.packing_agreement.specs.Abstract.{abstractRows}
 
 -- "Two floats are alike if their bits are equal or both are NaN."
 unfoldable pub alike : Float → Float → Bool

@@ -15,7 +15,7 @@ use Rattle.packing.specs.Inputs.{maskAccepted}
 use Rattle.d3d9_model.specs.State.{AbstractState}
 use Rattle.image_model.specs.Abstract.{imageAbstract}
 use Rattle.ff_state.specs.Operate.{operate}
-use Rattle.packing_laws.specs.Abstract.{abstractInputs}
+use Rattle.packing_agreement.specs.Abstract.{abstractInputs}
 use Rattle.calls.specs.Answer.{Answer}
 use Rattle.call_laws.specs.HostOperations.{hostAnswer, operationOf}
 use Rattle.refresh.specs.Mirror.{RefreshOutcome, refreshMirror}

@@ -9,7 +9,7 @@ use Rattle.d3d9_types.specs.Light.{defaultLight}
 use Rattle.ff_state.specs.Lights.{getLightAt, found}
 use Rattle.light_table.specs.declared.entry.OverflowLight.{OverflowLight}
 use Rattle.ff_state.specs.declared.lights.LightRead.the-variants.{Light}
-use Rattle.light_table.proofs.Lists.{getD-default}
+use Rattle.lemmas.proofs.Lists.{getD-default}
 use Rattle.light_table.proofs.LowerBound.{used-most}
 use Rattle.ff_state.proofs.Found.{searched, place-below, entry-there}
 use Rattle.ff_lights.proofs.lights.get_light_at.Statement.{statement}

@@ -8,7 +8,7 @@ use lib.ListN.{length, set, getD, length-set}
 use Rattle.light_table.specs.Entry.{zeroEntry}
 use Rattle.light_table.specs.Overflow.{insertedAt}
 use Rattle.light_table.specs.declared.entry.OverflowLight.{OverflowLight}
-use Rattle.light_table.proofs.Lists.{getD-default}
+use Rattle.lemmas.proofs.Lists.{getD-default}
 use Rattle.light_table.proofs.Insertion.{set-inserted, last-twice, shifted}
 use Rattle.light_table.proofs.overflow.inserted_at.Statement.{statement}
 use Rattle.light_table.proofs.overflow.inserted_at.Tie as tie

@@ -43,7 +43,7 @@ use Rattle.light_rows.specs.Light.{kindOf, lightRows, lightsRows}
 use Rattle.light_rows.proofs.Scene.{spot, spotBits}
 use Rattle.packing.specs.Inputs.{packedRows, maskAccepted}
 use Rattle.packing.specs.Pack.{packInputs, packSection}
-use Rattle.packing_laws.specs.Cases.{keyOf, packed}
+use Rattle.packing_agreement.specs.Cases.{keyOf, packed}
 
 unfoldable moved : FfState
 moved =

@@ -21,7 +21,7 @@ use Rattle.sections.specs.declared.key.FfVsKey.{FfVsKey}
 use Rattle.packing.proofs.Lengths.{rows-length}
 use Rattle.packing.specs.Inputs.{Inputs, packedRows, maskAccepted, inputsOf}
 use Rattle.packing.specs.Pack.{stateRows, packInputs, packSection, inputRows}
-use Rattle.packing_laws.specs.Abstract.{matricesFrom, abstractInputs, abstractRows, abstractPack}
+use Rattle.packing_agreement.specs.Abstract.{matricesFrom, abstractInputs, abstractRows, abstractPack}
 
 length-matrices : (m : ℕ → D3DMATRIX) (from n : ℕ) → length (matricesFrom m from n) ≡ n
 unfolding matricesFrom

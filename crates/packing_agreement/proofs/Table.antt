@@ -38,7 +38,7 @@ use Rattle.packing.specs.Inputs.{packedRows, maskAccepted}
 use Rattle.packing.specs.Pack.{packInputs, packSection}
 use Rattle.sections.specs.Counts.{places, lightCount, paletteMatrices, paletteCount, textureCount}
 use Rattle.sections.specs.RowCount.{lightingReach, textureReach, paletteReach, ffVsRowCount}
-use Rattle.packing_laws.specs.Cases.{p1, p2, p3, p4, p5, p6, p9, p10, p11, p12, packed, crowded, cases}
+use Rattle.packing_agreement.specs.Cases.{p1, p2, p3, p4, p5, p6, p9, p10, p11, p12, packed, crowded, cases}
 use lib.Count.{leadingZeros}
 
 abbrev every : List Bool → Bool

@@ -1,14 +1,26 @@
--- A list after one element is stored, or one put in. Assumes nothing.
+-- Laws of lists that several crates cite: an element read with another default, stored, or put in. Assumes nothing.
 use Prim.Native.Nat.{ℕ, zero, suc, _+_, _≤_, _<_}
+use native.Mathlib.Nat.{le-of-suc-le-suc, not-suc-le-zero}
 use native.Mathlib.Omega.{arith}
-use mathlib.Core.Path.{_≡_, sym, ap, subst, _∙_}
+use mathlib.Core.Path.{_≡_, refl, sym, ap, subst, _∙_}
 use mathlib.Core.Bool.{true, false, cond}
 use mathlib.Core.List.{List, [], _∷_, _++_}
 use lib.Dec.{eqb}
-use lib.ListN.{length, getD, set, take, drop}
+use lib.ListN.{length, getD, set, take, drop, replicate}
 use lib.Seq.{getD-set-same, getD-set-other, getD-take}
 use borrow.Author.Tests.{eqb-true, eqb-false}
 use Rattle.lemmas.proofs.Branch.{branch}
+
+-- within a list the default does not matter
+pub getD-default {ℓ} : {A : Type ℓ} (l : List A) (i : ℕ) (d e : A) → i < length l → getD l i d ≡ getD l i e
+getD-default [] i d e h = absurd (not-suc-le-zero h)
+getD-default (x ∷ l) zero d e h = refl
+getD-default (x ∷ l) (suc i) d e h = getD-default l i d e (le-of-suc-le-suc h)
+
+pub take-replicate {ℓ} : {A : Type ℓ} (m n : ℕ) (a : A) → m ≤ n → take m (replicate n a) ≡ replicate m a
+take-replicate zero n a h = refl
+take-replicate (suc m) zero a h = absurd (not-suc-le-zero h)
+take-replicate {A = A} (suc m) (suc n) a h = ap (λ (l : List A). a ∷ l) (take-replicate m n a (le-of-suc-le-suc h))
 
 module _ {A : Type 0} (l : List A) (i : ℕ) (a d : A) (h : i < length l) where
   pub getD-set : (j : ℕ) → getD (set l i a) j d ≡ cond (eqb i j) a (getD l j d)
