@@ -38,13 +38,18 @@ same-length-2 c = search needs
 returns-2 : tie.Need-returns-2
 unfolding markNumber
 returns-2 c =
-    let a = c .before .before .before .before .before .before .before .before .before .args in
-    changing-own _ _ _ (sym (c .before .before .before .before .before .before .image-refused .ensures) ∙ c .before .before .before .before .before .if1 .left)
+    let at-if1 = c .before .before .before .before .before in
+    let at-image-refused = c .before .before .before .before .before .before in
+    let entry = c .before .before .before .before .before .before .before .before .before in
+    let a = entry .args in
+    changing-own _ _ _ (sym (at-image-refused .image-refused .ensures) ∙ at-if1 .if1 .left)
     (ap (λ (m : Marked). markNumber (m .answer)) (sym (c .before .before .mark-ff-vs-dirty .ensures ∙ ap (λ s. markFfVsDirty s (a .bits)) (c .before .before .before .state-of .ensures))) ∙ ap markNumber (c .enum-told2 .given .1))
 
 put-state-requires : tie.Need-put-state-requires
 put-state-requires c κs =
-    image-long _ (sym (c .before .before .before .before .before .before .before .image-refused .ensures) ∙ c .before .before .before .before .before .before .if1 .left)
+    let at-if1 = c .before .before .before .before .before .before in
+    let at-image-refused = c .before .before .before .before .before .before .before in
+    image-long _ (sym (at-image-refused .image-refused .ensures) ∙ at-if1 .if1 .left)
 
 same-length-3 : tie.Need-same-length-3
 same-length-3 c = search needs
@@ -52,9 +57,11 @@ same-length-3 c = search needs
 returns-3 : tie.Need-returns-3
 unfolding markNumber
 returns-3 c =
-    let a = c .before .before .before .before .before .before .before .before .before .before .before .before .before .args in
+    let at-mark-ff-vs-dirty = c .before .before .before .before .before .before in
+    let entry = c .before .before .before .before .before .before .before .before .before .before .before .before .before in
+    let a = entry .args in
     let s = c .before .before .before .before .before .before .before in
-    let marked = c .before .before .before .before .before .before .mark-ff-vs-dirty .ensures ∙ ap (λ x. markFfVsDirty x (a .bits)) (s .state-of .ensures) in
+    let marked = at-mark-ff-vs-dirty .mark-ff-vs-dirty .ensures ∙ ap (λ x. markFfVsDirty x (a .bits)) (s .state-of .ensures) in
     changing-done _ _ _ (sym (s .before .before .before .image-refused .ensures) ∙ s .before .before .if1 .left)
     (ap (λ (m : Marked). markNumber (m .answer)) (sym marked) ∙ ap markNumber (c .before .before .before .before .enum-told .given .1))
     refl

@@ -29,7 +29,8 @@ take-ff-vs-dirty-requires c κs = search needs
 
 put-state-requires : tie.Need-put-state-requires
 put-state-requires c κs =
-    image-long _ (sym (c .before .before .before .before .before .image-refused .ensures) ∙ c .before .before .before .before .if1 .left)
+    let at-image-refused = c .before .before .before .before .before in
+    image-long _ (sym (at-image-refused .image-refused .ensures) ∙ c .before .before .before .before .if1 .left)
 
 same-length-2 : tie.Need-same-length-2
 same-length-2 c = search needs

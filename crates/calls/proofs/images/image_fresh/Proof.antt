@@ -24,14 +24,18 @@ same-length c = search needs
 
 returns : tie.Need-returns
 unfolding writeNumber
-returns c = fresh-written _ (c .before .before .before .before .before .before .new .ensures) (c .before .before .before .before .write-image .ensures) (ap writeNumber (c .enum-told .given .1))
+returns c =
+    let at-new = c .before .before .before .before .before .before in
+    fresh-written _ (at-new .new .ensures) (c .before .before .before .before .write-image .ensures) (ap writeNumber (c .enum-told .given .1))
 
 same-length-2 : tie.Need-same-length-2
 same-length-2 c = search needs
 
 returns-2 : tie.Need-returns-2
 unfolding writeNumber
-returns-2 c = fresh-written _ (c .before .before .before .before .before .before .new .ensures) (c .before .before .before .before .write-image .ensures) (ap writeNumber (c .enum-told2 .given .1))
+returns-2 c =
+    let at-new = c .before .before .before .before .before .before in
+    fresh-written _ (at-new .new .ensures) (c .before .before .before .before .write-image .ensures) (ap writeNumber (c .enum-told2 .given .1))
 
 pub image-fresh-spec : {M : Type 1} → statement M
 image-fresh-spec = tie.close (tie.spec new-requires write-image-requires enum-told enum-told-2 same-length returns same-length-2 returns-2)

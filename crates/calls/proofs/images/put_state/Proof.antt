@@ -13,7 +13,8 @@ same-length c = search needs
 
 returns : tie.Need-returns
 returns c =
-    written _ _ (c .before .before .before .before .before .pre) (c .before .before .write-image .ensures)
+    let entry = c .before .before .before .before .before in
+    written _ _ (entry .pre) (c .before .before .write-image .ensures)
 
 pub put-state-spec : {M : Type 1} → statement M
 put-state-spec = tie.close (tie.spec write-image-requires same-length returns)

@@ -36,11 +36,12 @@ same-length c = search needs
 
 returns-3 : tie.Need-returns-3
 returns-3 c =
+    let at-state-of = c .before .before .before .before .before in
     let t = c .before .before .before .before .before .before in
     reading-done _ _ _ _ _ (sym (t .before .before .image-refused .ensures) ∙ t .before .if1 .left) refl (length-right 68 _ (t .if2 .left))
     (c .before .before .put-material .ensures
     ∙ put-materialBytes _ _ (t .if2 .left)
-    ∙ ap materialBytes (c .before .before .before .before .material .ensures ∙ ap (λ (s : FfState). s .material) (c .before .before .before .before .before .state-of .ensures)))
+    ∙ ap materialBytes (c .before .before .before .before .material .ensures ∙ ap (λ (s : FfState). s .material) (at-state-of .state-of .ensures)))
 
 pub material-spec : {M : Type 1} → statement M
 material-spec =

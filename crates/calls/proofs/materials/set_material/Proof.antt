@@ -38,17 +38,20 @@ set-material-requires c κs = search needs
 
 put-state-requires : tie.Need-put-state-requires
 put-state-requires c κs =
-    image-long _ (sym (c .before .before .before .before .before .before .before .image-refused .ensures) ∙ c .before .before .before .before .before .before .if1 .left)
+    let at-if1 = c .before .before .before .before .before .before in
+    let at-image-refused = c .before .before .before .before .before .before .before in
+    image-long _ (sym (at-image-refused .image-refused .ensures) ∙ at-if1 .if1 .left)
 
 same-length-3 : tie.Need-same-length-3
 same-length-3 c = search needs
 
 returns-3 : tie.Need-returns-3
 returns-3 c =
+    let at-material-at = c .before .before .before .before .before in
     let s = c .before .before .before .before .before .before in
     changing-done _ _ _ (sym (s .before .before .before .before .image-refused .ensures) ∙ s .before .before .before .if1 .left) refl (length-right 68 _ (s .before .before .if2 .left))
     (c .before .before .put-state .ensures
-    ∙ ap imageBytes (c .before .before .before .before .set-material .ensures ∙ ap₂ setMaterial (s .state-of .ensures) (c .before .before .before .before .before .material-at .ensures)))
+    ∙ ap imageBytes (c .before .before .before .before .set-material .ensures ∙ ap₂ setMaterial (s .state-of .ensures) (at-material-at .material-at .ensures)))
 
 pub set-material-spec : {M : Type 1} → statement M
 set-material-spec =

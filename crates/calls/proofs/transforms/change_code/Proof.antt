@@ -33,17 +33,19 @@ returns-2 c =
 
 returns-3 : tie.Need-returns-3
 returns-3 c =
+    let at-image-refused = c .before .before .before .before .before in
     sym
     (changing-code _ _ _
-    ∙ code-length _ _ _ (sym (c .before .before .before .before .before .image-refused .ensures) ∙ c .before .before .before .before .if1 .left)
+    ∙ code-length _ _ _ (sym (at-image-refused .image-refused .ensures) ∙ c .before .before .before .before .if1 .left)
     (set-known _ _ _ (sym (c .before .before .before .slot-of .ensures) ∙ c .before .enum-told .given .1))
     ∙ length-wrong 64 _ (c .if2 .taken))
 
 returns-4 : tie.Need-returns-4
 returns-4 c =
+    let at-image-refused = c .before .before .before .before .before in
     sym
     (changing-code _ _ _
-    ∙ code-length _ _ _ (sym (c .before .before .before .before .before .image-refused .ensures) ∙ c .before .before .before .before .if1 .left)
+    ∙ code-length _ _ _ (sym (at-image-refused .image-refused .ensures) ∙ c .before .before .before .before .if1 .left)
     (set-known _ _ _ (sym (c .before .before .before .slot-of .ensures) ∙ c .before .enum-told .given .1))
     ∙ length-right 64 _ (c .if2 .left))
 

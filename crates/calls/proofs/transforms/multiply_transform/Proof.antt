@@ -38,12 +38,13 @@ same-length-2 c = search needs
 
 returns-2 : tie.Need-returns-2
 returns-2 c =
+    let at-matrix-at = c .before .before .before .before .before in
     let s = c .before .before .before .before .before .before in
     let a = s .before .before .before .before .before .before .before .args in
     changing-accepted _ _ _ (sym (s .before .before .before .change-code .ensures ∙ multiply-code _ _ _) ∙ s .before .before .if1 .left)
     (c .before .before .put-state .ensures
     ∙ ap (λ (t : TransformChanged). imageBytes (t .state))
-    (c .before .before .before .before .multiply-transform .ensures ∙ ap₂ (λ x m. multiplyTransform x (a .state) m) (s .state-of .ensures) (c .before .before .before .before .before .matrix-at .ensures)))
+    (c .before .before .before .before .multiply-transform .ensures ∙ ap₂ (λ x m. multiplyTransform x (a .state) m) (s .state-of .ensures) (at-matrix-at .matrix-at .ensures)))
 
 pub multiply-transform-spec : {M : Type 1} → statement M
 multiply-transform-spec =

@@ -33,16 +33,22 @@ enum-told c = search needs
 returns-2 : tie.Need-returns-2
 unfolding transformReadNumber
 returns-2 c =
-    let a = c .before .before .before .before .before .before .before .before .args in
-    reading-own _ _ _ _ _ (sym (c .before .before .before .before .before .image-refused .ensures) ∙ c .before .before .before .before .if1 .left)
+    let at-image-refused = c .before .before .before .before .before in
+    let entry = c .before .before .before .before .before .before .before .before in
+    let a = entry .args in
+    reading-own _ _ _ _ _ (sym (at-image-refused .image-refused .ensures) ∙ c .before .before .before .before .if1 .left)
     (ap transformReadNumber (sym (c .before .before .transform .ensures ∙ ap (λ s. transformOf s (a .state)) (c .before .before .before .state-of .ensures)) ∙ c .enum-told .given .1))
 
 returns-3 : tie.Need-returns-3
 unfolding transformReadNumber
 returns-3 c =
-    let a = c .before .before .before .before .before .before .before .before .before .before .args in
-    reading-length _ _ _ _ _ (sym (c .before .before .before .before .before .before .before .image-refused .ensures) ∙ c .before .before .before .before .before .before .if1 .left)
-    (ap transformReadNumber (sym (c .before .before .before .before .transform .ensures ∙ ap (λ s. transformOf s (a .state)) (c .before .before .before .before .before .state-of .ensures)) ∙ c .before .before .read .given .1))
+    let at-state-of = c .before .before .before .before .before in
+    let at-if1 = c .before .before .before .before .before .before in
+    let at-image-refused = c .before .before .before .before .before .before .before in
+    let entry = c .before .before .before .before .before .before .before .before .before .before in
+    let a = entry .args in
+    reading-length _ _ _ _ _ (sym (at-image-refused .image-refused .ensures) ∙ at-if1 .if1 .left)
+    (ap transformReadNumber (sym (c .before .before .before .before .transform .ensures ∙ ap (λ s. transformOf s (a .state)) (at-state-of .state-of .ensures)) ∙ c .before .before .read .given .1))
     (length-wrong 64 _ (c .if2 .taken))
 
 put-matrix-requires : tie.Need-put-matrix-requires
@@ -54,7 +60,8 @@ same-length c = search needs
 returns-4 : tie.Need-returns-4
 unfolding transformReadNumber transformReadMatrix
 returns-4 c =
-    let a = c .before .before .before .before .before .before .before .before .before .before .before .before .before .before .args in
+    let entry = c .before .before .before .before .before .before .before .before .before .before .before .before .before .before in
+    let a = entry .args in
     let r = c .before .before .before .before .before .before in
     let t = r .before .before .before .before in
     let found = sym (r .before .before .transform .ensures ∙ ap (λ s. transformOf s (a .state)) (r .before .before .before .state-of .ensures)) ∙ r .read .given .1 in

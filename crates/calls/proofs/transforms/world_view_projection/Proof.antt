@@ -36,11 +36,12 @@ same-length c = search needs
 
 returns-3 : tie.Need-returns-3
 returns-3 c =
+    let at-state-of = c .before .before .before .before .before in
     let t = c .before .before .before .before .before .before in
     reading-done _ _ _ _ _ (sym (t .before .before .image-refused .ensures) ∙ t .before .if1 .left) refl (length-right 64 _ (t .if2 .left))
     (c .before .before .put-matrix .ensures
     ∙ put-matrixBytes _ _ (t .if2 .left)
-    ∙ ap matrixBytes (c .before .before .before .before .world-view-projection .ensures ∙ ap worldViewProjection (c .before .before .before .before .before .state-of .ensures)))
+    ∙ ap matrixBytes (c .before .before .before .before .world-view-projection .ensures ∙ ap worldViewProjection (at-state-of .state-of .ensures)))
 
 pub world-view-projection-spec : {M : Type 1} → statement M
 world-view-projection-spec =

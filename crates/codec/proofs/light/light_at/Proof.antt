@@ -55,7 +55,11 @@ vector-at-requires-3 c κs = search needs
 
 returns : tie.Need-returns
 unfolding lightAt rowAt vectorAt
-returns c = rw (c .before .before .before .before .before .before .before .u32-at .ensures, c .before .before .before .before .before .before .color-at .ensures, c .before .before .before .before .before .color-at2 .ensures, c .before .before .before .before .color-at3 .ensures, c .before .before .before .vector-at .ensures, c .before .before .vector-at2 .ensures, c .before .row-at .ensures, c .vector-at3 .ensures) (simp add-assoc)
+returns c =
+    let at-color-at2 = c .before .before .before .before .before in
+    let at-color-at = c .before .before .before .before .before .before in
+    let at-u32-at = c .before .before .before .before .before .before .before in
+    rw (at-u32-at .u32-at .ensures, at-color-at .color-at .ensures, at-color-at2 .color-at2 .ensures, c .before .before .before .before .color-at3 .ensures, c .before .before .before .vector-at .ensures, c .before .before .vector-at2 .ensures, c .before .row-at .ensures, c .vector-at3 .ensures) (simp add-assoc)
 
 pub light-at-spec : {M : Type 1} → statement M
 light-at-spec =

@@ -41,36 +41,54 @@ material-at-requires : tie.Need-material-at-requires
 material-at-requires c κs = search needs
 
 u8-at-requires-2 : tie.Need-u8-at-requires-2
-u8-at-requires-2 c κs = le-trans (lit≤ tt) (c .before .before .before .before .before .before .before .before .before .before .before .before .pre)
+u8-at-requires-2 c κs =
+    let entry = c .before .before .before .before .before .before .before .before .before .before .before .before in
+    le-trans (lit≤ tt) (entry .pre)
 
 entries-at-requires : tie.Need-entries-at-requires
-entries-at-requires c κs = le-trans (lit≤ tt) (c .before .before .before .before .before .before .before .before .before .before .before .before .before .pre)
+entries-at-requires c κs =
+    let entry = c .before .before .before .before .before .before .before .before .before .before .before .before .before in
+    le-trans (lit≤ tt) (entry .pre)
 
 u16-at-requires-2 : tie.Need-u16-at-requires-2
-u16-at-requires-2 c κs = le-trans (lit≤ tt) (c .before .before .before .before .before .before .before .before .before .before .before .before .before .before .pre)
+u16-at-requires-2 c κs =
+    let entry = c .before .before .before .before .before .before .before .before .before .before .before .before .before .before in
+    le-trans (lit≤ tt) (entry .pre)
 
 u8-at-requires-3 : tie.Need-u8-at-requires-3
-u8-at-requires-3 c κs = le-trans (lit≤ tt) (c .before .before .before .before .before .before .before .before .before .before .before .before .before .before .before .pre)
+u8-at-requires-3 c κs =
+    let entry = c .before .before .before .before .before .before .before .before .before .before .before .before .before .before .before in
+    le-trans (lit≤ tt) (entry .pre)
 
 returns : tie.Need-returns
 unfolding stateOf
 returns c =
+    let at-textures-at = c .before .before .before .before .before in
+    let at-u16-at = c .before .before .before .before .before .before in
+    let at-palette-at = c .before .before .before .before .before .before .before in
+    let at-matrix-at2 = c .before .before .before .before .before .before .before .before in
+    let at-matrix-at = c .before .before .before .before .before .before .before .before .before in
+    let at-type-mask2 = c .before .before .before .before .before .before .before .before .before .before in
+    let at-type-mask = c .before .before .before .before .before .before .before .before .before .before .before in
+    let at-set-mask = c .before .before .before .before .before .before .before .before .before .before .before .before in
+    let at-u8-at = c .before .before .before .before .before .before .before .before .before .before .before .before .before in
+    let at-lights-at = c .before .before .before .before .before .before .before .before .before .before .before .before .before .before in
     rw (
       c .u8-at3 .ensures,
       c .before .u16-at2 .ensures,
       c .before .before .entries-at .ensures,
       c .before .before .before .u8-at2 .ensures,
       c .before .before .before .before .material-at .ensures,
-      c .before .before .before .before .before .textures-at .ensures,
-      c .before .before .before .before .before .before .u16-at .ensures,
-      c .before .before .before .before .before .before .before .palette-at .ensures,
-      c .before .before .before .before .before .before .before .before .matrix-at2 .ensures,
-      c .before .before .before .before .before .before .before .before .before .matrix-at .ensures,
-      c .before .before .before .before .before .before .before .before .before .before .type-mask2 .ensures,
-      c .before .before .before .before .before .before .before .before .before .before .before .type-mask .ensures,
-      c .before .before .before .before .before .before .before .before .before .before .before .before .set-mask .ensures,
-      c .before .before .before .before .before .before .before .before .before .before .before .before .before .u8-at .ensures,
-      c .before .before .before .before .before .before .before .before .before .before .before .before .before .before .lights-at .ensures,
+      at-textures-at .textures-at .ensures,
+      at-u16-at .u16-at .ensures,
+      at-palette-at .palette-at .ensures,
+      at-matrix-at2 .matrix-at2 .ensures,
+      at-matrix-at .matrix-at .ensures,
+      at-type-mask2 .type-mask2 .ensures,
+      at-type-mask .type-mask .ensures,
+      at-set-mask .set-mask .ensures,
+      at-u8-at .u8-at .ensures,
+      at-lights-at .lights-at .ensures,
     )
 
 pub state-of-spec : {M : Type 1} → statement M

@@ -39,7 +39,9 @@ zeros-at-requires c κs = search needs
 
 returns-3 : tie.Need-returns-3
 unfolding entriesRefused
-returns-3 c = rw (← c .before .before .before .before .before .u16-at .ensures, ← c .before .before .before .before .entries-ascending .ensures, c .before .before .before .if1 .left, ← c .before .before .flags-ok .ensures, c .before .if2 .left, ← c .zeros-at .ensures)
+returns-3 c =
+    let at-u16-at = c .before .before .before .before .before in
+    rw (← at-u16-at .u16-at .ensures, ← c .before .before .before .before .entries-ascending .ensures, c .before .before .before .if1 .left, ← c .before .before .flags-ok .ensures, c .before .if2 .left, ← c .zeros-at .ensures)
 
 pub entries-refused-spec : {M : Type 1} → statement M
 entries-refused-spec =

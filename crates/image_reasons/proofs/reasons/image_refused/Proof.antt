@@ -32,14 +32,21 @@ slots-refused-requires c κs = search needs
 
 returns-4 : tie.Need-returns-4
 unfolding refused
-returns-4 c = rw (eq-eqb _ _ (c .before .before .before .before .before .before .if1 .left), ← c .before .before .before .before .before .numbers-refused .ensures, c .before .before .before .before .if2 .left, ← c .before .before .before .entries-refused .ensures, c .before .before .if3 .left, ← c .before .slots-refused .ensures, c .if4 .taken)
+returns-4 c =
+    let at-numbers-refused = c .before .before .before .before .before in
+    let at-if1 = c .before .before .before .before .before .before in
+    rw (eq-eqb _ _ (at-if1 .if1 .left), ← at-numbers-refused .numbers-refused .ensures, c .before .before .before .before .if2 .left, ← c .before .before .before .entries-refused .ensures, c .before .before .if3 .left, ← c .before .slots-refused .ensures, c .if4 .taken)
 
 another-nan-requires : tie.Need-another-nan-requires
 another-nan-requires c κs = search needs
 
 returns-5 : tie.Need-returns-5
 unfolding refused
-returns-5 c = rw (eq-eqb _ _ (c .before .before .before .before .before .before .before .if1 .left), ← c .before .before .before .before .before .before .numbers-refused .ensures, c .before .before .before .before .before .if2 .left, ← c .before .before .before .before .entries-refused .ensures, c .before .before .before .if3 .left, ← c .before .before .slots-refused .ensures, c .before .if4 .left, ← c .another-nan .ensures)
+returns-5 c =
+    let at-if2 = c .before .before .before .before .before in
+    let at-numbers-refused = c .before .before .before .before .before .before in
+    let at-if1 = c .before .before .before .before .before .before .before in
+    rw (eq-eqb _ _ (at-if1 .if1 .left), ← at-numbers-refused .numbers-refused .ensures, at-if2 .if2 .left, ← c .before .before .before .before .entries-refused .ensures, c .before .before .before .if3 .left, ← c .before .before .slots-refused .ensures, c .before .if4 .left, ← c .another-nan .ensures)
 
 pub image-refused-spec : {M : Type 1} → statement M
 image-refused-spec =

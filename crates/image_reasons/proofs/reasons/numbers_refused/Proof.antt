@@ -29,7 +29,9 @@ returns-2 c =
     next _ _ (not-above _ (u .before .u8-at .ensures) (u .if1 .left)) (here _ _ (differs _ (c .before .u8-at2 .ensures) (c .if2 .taken)))
 
 u16-at-requires : tie.Need-u16-at-requires
-u16-at-requires c κs = le-trans (lit≤ tt) (c .before .before .before .before .before .pre)
+u16-at-requires c κs =
+    let entry = c .before .before .before .before .before in
+    le-trans (lit≤ tt) (entry .pre)
 
 returns-3 : tie.Need-returns-3
 unfolding numbersRefused
@@ -40,7 +42,9 @@ returns-3 c =
     (next _ _ (differs-not _ (v .before .u8-at2 .ensures) (v .if2 .left)) (here _ _ (above _ (c .before .u16-at .ensures) (c .if3 .taken))))
 
 u16-at-requires-2 : tie.Need-u16-at-requires-2
-u16-at-requires-2 c κs = le-trans (lit≤ tt) (c .before .before .before .before .before .before .before .pre)
+u16-at-requires-2 c κs =
+    let entry = c .before .before .before .before .before .before .before in
+    le-trans (lit≤ tt) (entry .pre)
 
 returns-4 : tie.Need-returns-4
 unfolding numbersRefused

@@ -34,16 +34,22 @@ enum-told c = search needs
 returns-2 : tie.Need-returns-2
 unfolding lightReadNumber
 returns-2 c =
-    let a = c .before .before .before .before .before .before .before .before .args in
-    reading-own _ _ _ _ _ (sym (c .before .before .before .before .before .image-refused .ensures) ∙ c .before .before .before .before .if1 .left)
+    let at-image-refused = c .before .before .before .before .before in
+    let entry = c .before .before .before .before .before .before .before .before in
+    let a = entry .args in
+    reading-own _ _ _ _ _ (sym (at-image-refused .image-refused .ensures) ∙ c .before .before .before .before .if1 .left)
     (ap lightReadNumber (sym (c .before .before .get-light-at .ensures ∙ ap (λ s. getLightAt s (a .index)) (c .before .before .before .state-of .ensures)) ∙ c .enum-told .given .1))
 
 returns-3 : tie.Need-returns-3
 unfolding lightReadNumber
 returns-3 c =
-    let a = c .before .before .before .before .before .before .before .before .before .before .args in
-    reading-length _ _ _ _ _ (sym (c .before .before .before .before .before .before .before .image-refused .ensures) ∙ c .before .before .before .before .before .before .if1 .left)
-    (ap lightReadNumber (sym (c .before .before .before .before .get-light-at .ensures ∙ ap (λ s. getLightAt s (a .index)) (c .before .before .before .before .before .state-of .ensures)) ∙ c .before .before .read .given .1))
+    let at-state-of = c .before .before .before .before .before in
+    let at-if1 = c .before .before .before .before .before .before in
+    let at-image-refused = c .before .before .before .before .before .before .before in
+    let entry = c .before .before .before .before .before .before .before .before .before .before in
+    let a = entry .args in
+    reading-length _ _ _ _ _ (sym (at-image-refused .image-refused .ensures) ∙ at-if1 .if1 .left)
+    (ap lightReadNumber (sym (c .before .before .before .before .get-light-at .ensures ∙ ap (λ s. getLightAt s (a .index)) (at-state-of .state-of .ensures)) ∙ c .before .before .read .given .1))
     (length-wrong 104 _ (c .if2 .taken))
 
 put-light-requires : tie.Need-put-light-requires
@@ -55,7 +61,8 @@ same-length c = search needs
 returns-4 : tie.Need-returns-4
 unfolding lightReadNumber lightReadLight
 returns-4 c =
-    let a = c .before .before .before .before .before .before .before .before .before .before .before .before .before .before .args in
+    let entry = c .before .before .before .before .before .before .before .before .before .before .before .before .before .before in
+    let a = entry .args in
     let r = c .before .before .before .before .before .before in
     let t = r .before .before .before .before in
     let found = sym (r .before .before .get-light-at .ensures ∙ ap (λ s. getLightAt s (a .index)) (r .before .before .before .state-of .ensures)) ∙ r .read .given .1 in

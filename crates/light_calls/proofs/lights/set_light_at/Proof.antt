@@ -35,8 +35,10 @@ same-length-2 c = search needs
 
 returns-2 : tie.Need-returns-2
 returns-2 c =
-    let a = c .before .before .before .before .before .before .before .before .before .args in
-    changing-own _ _ _ (sym (c .before .before .before .before .before .image-refused .ensures) ∙ c .before .before .before .before .if1 .left)
+    let at-image-refused = c .before .before .before .before .before in
+    let entry = c .before .before .before .before .before .before .before .before .before in
+    let a = entry .args in
+    changing-own _ _ _ (sym (at-image-refused .image-refused .ensures) ∙ c .before .before .before .before .if1 .left)
     (set-full _ _ (lightAt (a .light .now) 0) (sym (c .before .has-room .ensures ∙ ap (λ s. hasRoom s (a .index)) (c .before .before .state-of .ensures)) ∙ not-true _ (c .if2 .taken)))
 
 same-length-3 : tie.Need-same-length-3
@@ -44,8 +46,11 @@ same-length-3 c = search needs
 
 returns-3 : tie.Need-returns-3
 returns-3 c =
-    let a = c .before .before .before .before .before .before .before .before .before .before .args in
-    changing-length _ _ _ (sym (c .before .before .before .before .before .before .image-refused .ensures) ∙ c .before .before .before .before .before .if1 .left)
+    let at-if1 = c .before .before .before .before .before in
+    let at-image-refused = c .before .before .before .before .before .before in
+    let entry = c .before .before .before .before .before .before .before .before .before .before in
+    let a = entry .args in
+    changing-length _ _ _ (sym (at-image-refused .image-refused .ensures) ∙ at-if1 .if1 .left)
     (set-room _ _ (lightAt (a .light .now) 0) (sym (c .before .before .has-room .ensures ∙ ap (λ s. hasRoom s (a .index)) (c .before .before .before .state-of .ensures)) ∙ not-false _ (c .before .if2 .left))) (length-wrong 104 _ (c .if3 .taken))
 
 light-at-requires : tie.Need-light-at-requires
@@ -56,14 +61,18 @@ set-light-at-requires c κs = search needs
 
 put-state-requires : tie.Need-put-state-requires
 put-state-requires c κs =
-    image-long _ (sym (c .before .before .before .before .before .before .before .before .before .image-refused .ensures) ∙ c .before .before .before .before .before .before .before .before .if1 .left)
+    let at-if1 = c .before .before .before .before .before .before .before .before in
+    let at-image-refused = c .before .before .before .before .before .before .before .before .before in
+    image-long _ (sym (at-image-refused .image-refused .ensures) ∙ at-if1 .if1 .left)
 
 same-length-4 : tie.Need-same-length-4
 same-length-4 c = search needs
 
 returns-4 : tie.Need-returns-4
 returns-4 c =
-    let a = c .before .before .before .before .before .before .before .before .before .before .before .before .before .before .before .before .args in
+    let at-light-at = c .before .before .before .before .before in
+    let entry = c .before .before .before .before .before .before .before .before .before .before .before .before .before .before .before .before in
+    let a = entry .args in
     let t = c .before .before .before .before .before .before in
     let s = t .before .before .before in
     changing-done _ _ _ (sym (s .before .before .before .image-refused .ensures) ∙ s .before .before .if1 .left)
@@ -71,7 +80,7 @@ returns-4 c =
     (length-right 104 _ (t .if3 .left))
     (c .before .before .put-state .ensures
     ∙ ap (λ (t : LightChanged). imageBytes (t .state))
-    (c .before .before .before .before .set-light-at .ensures ∙ ap₂ (λ x l. setLightAt x (a .index) l) (s .state-of .ensures) (c .before .before .before .before .before .light-at .ensures)))
+    (c .before .before .before .before .set-light-at .ensures ∙ ap₂ (λ x l. setLightAt x (a .index) l) (s .state-of .ensures) (at-light-at .light-at .ensures)))
 
 pub set-light-at-spec : {M : Type 1} → statement M
 set-light-at-spec =

@@ -35,8 +35,10 @@ same-length-2 c = search needs
 
 returns-2 : tie.Need-returns-2
 returns-2 c =
-    let a = c .before .before .before .before .before .before .before .before .args in
-    changing-own _ _ _ (sym (c .before .before .before .before .before .image-refused .ensures) ∙ c .before .before .before .before .if1 .left)
+    let at-image-refused = c .before .before .before .before .before in
+    let entry = c .before .before .before .before .before .before .before .before in
+    let a = entry .args in
+    changing-own _ _ _ (sym (at-image-refused .image-refused .ensures) ∙ c .before .before .before .before .if1 .left)
     (enable-full _ _ (not (eqb (a .enabled) 0)) (sym (c .before .has-room .ensures ∙ ap (λ s. hasRoom s (a .index)) (c .before .before .state-of .ensures)) ∙ not-true _ (c .if2 .taken)))
 
 set-light-enabled-at-requires : tie.Need-set-light-enabled-at-requires
@@ -44,17 +46,22 @@ set-light-enabled-at-requires c κs = search needs
 
 put-state-requires : tie.Need-put-state-requires
 put-state-requires c κs =
-    image-long _ (sym (c .before .before .before .before .before .before .before .image-refused .ensures) ∙ c .before .before .before .before .before .before .if1 .left)
+    let at-if1 = c .before .before .before .before .before .before in
+    let at-image-refused = c .before .before .before .before .before .before .before in
+    image-long _ (sym (at-image-refused .image-refused .ensures) ∙ at-if1 .if1 .left)
 
 same-length-3 : tie.Need-same-length-3
 same-length-3 c = search needs
 
 returns-3 : tie.Need-returns-3
 returns-3 c =
-    let a = c .before .before .before .before .before .before .before .before .before .before .before .before .before .args in
+    let at-if2 = c .before .before .before .before .before in
+    let at-has-room = c .before .before .before .before .before .before in
+    let entry = c .before .before .before .before .before .before .before .before .before .before .before .before .before in
+    let a = entry .args in
     let s = c .before .before .before .before .before .before .before in
     changing-done _ _ _ (sym (s .before .before .before .image-refused .ensures) ∙ s .before .before .if1 .left)
-    (enable-room _ _ (not (eqb (a .enabled) 0)) (sym (c .before .before .before .before .before .before .has-room .ensures ∙ ap (λ s. hasRoom s (a .index)) (s .state-of .ensures)) ∙ not-false _ (c .before .before .before .before .before .if2 .left)))
+    (enable-room _ _ (not (eqb (a .enabled) 0)) (sym (at-has-room .has-room .ensures ∙ ap (λ s. hasRoom s (a .index)) (s .state-of .ensures)) ∙ not-false _ (at-if2 .if2 .left)))
     refl
     (c .before .before .put-state .ensures
     ∙ ap (λ (t : LightChanged). imageBytes (t .state))

@@ -54,8 +54,9 @@ loop-less c = omega arith
 
 loop-again : tie.Need-loop-again Inv-loop μ-loop
 loop-again c =
+    let entry = c .before .before .before .before .before in
     let l = c .before .before .before .loop in
-    let a = c .before .before .before .before .before .args in
+    let a = entry .args in
     let t = c .before .has-bit .result in
     let light = getD (a .t1) (l .i) noLight in
     let len = l .inv .1 in (

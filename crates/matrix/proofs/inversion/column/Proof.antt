@@ -20,8 +20,10 @@ sum3-requires-4 c κs = search needs
 returns : tie.Need-returns
 unfolding columnOf
 returns c =
+    let at-sum32 = c .before .before .before .before .before in
+    let at-sum3 = c .before .before .before .before .before .before .before .before in
     rw
-    (c .before .before .before .before .before .before .before .before .sum3 .ensures, c .before .before .before .before .before .sum32 .ensures, c .before .before .before .sum33 .ensures, c .sum34 .ensures)
+    (at-sum3 .sum3 .ensures, at-sum32 .sum32 .ensures, c .before .before .before .sum33 .ensures, c .sum34 .ensures)
 
 pub column-spec : {M : Type 1} → statement M
 column-spec =

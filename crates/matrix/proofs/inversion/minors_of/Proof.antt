@@ -26,8 +26,9 @@ det2-requires-6 c κs = search needs
 returns : tie.Need-returns
 unfolding minorsOf
 returns c =
+    let at-det2 = c .before .before .before .before .before in
     rw
-    (c .before .before .before .before .before .det2 .ensures, c .before .before .before .before .det22 .ensures, c .before .before .before .det23 .ensures, c .before .before .det24 .ensures, c .before .det25 .ensures, c .det26 .ensures)
+    (at-det2 .det2 .ensures, c .before .before .before .before .det22 .ensures, c .before .before .before .det23 .ensures, c .before .before .det24 .ensures, c .before .det25 .ensures, c .det26 .ensures)
 
 pub minors-of-spec : {M : Type 1} → statement M
 minors-of-spec =

@@ -20,13 +20,15 @@ returns c =
 returns-2 : tie.Need-returns-2
 unfolding ffMatMul orNext
 returns-2 c =
-    let a = c .before .before .before .before .before .args in
+    let entry = c .before .before .before .before .before in
+    let a = entry .args in
     refused _ (a .out .now) (rw (length-right 64 (a .a .now) (c .before .if1 .left), length-wrong 64 (a .b .now) (c .if2 .taken)))
 
 returns-3 : tie.Need-returns-3
 unfolding ffMatMul orNext
 returns-3 c =
-    let a = c .before .before .before .before .before .before .args in
+    let entry = c .before .before .before .before .before .before in
+    let a = entry .args in
     refused _ (a .out .now)
     (rw (length-right 64 (a .a .now) (c .before .before .if1 .left), length-right 64 (a .b .now) (c .before .if2 .left), length-wrong 64 (a .out .now) (c .if3 .taken)))
 

@@ -39,13 +39,16 @@ same-length-2 c = search needs
 returns : tie.Need-returns
 unfolding packNumber
 returns c =
-    let a = c .before .before .before .before .before .before .before .before .before .before .before .before .before .args in
-    let q = c .before .before .before .before .before .before .before .before .before .before .before .before .before .pre in
-    let fine = sym (number-is _ _ _ (now (a .floats)) (q .0) (c .before .before .before .before .before .before .before .before .before .pack-section .ensures)) ∙ ap packNumber (c .before .before .before .before .before .enum-told .given .1) in
+    let at-enum-told = c .before .before .before .before .before in
+    let at-pack-section = c .before .before .before .before .before .before .before .before .before in
+    let entry = c .before .before .before .before .before .before .before .before .before .before .before .before .before in
+    let a = entry .args in
+    let q = entry .pre in
+    let fine = sym (number-is _ _ _ (now (a .floats)) (q .0) (at-pack-section .pack-section .ensures)) ∙ ap packNumber (at-enum-told .enum-told .given .1) in
     accepted _ (now (a .dst)) fine
     (c .before .before .put-floats .ensures
-    ∙ put-whole _ (now (a .dst)) (q .1 ∙ sym (length-listBytes floatBytes 4 length-floatBytes _ ∙ ap (λ (n : ℕ). 4 * n) (c .before .before .before .before .before .before .before .before .before .pack-section .kept .1 .1 .1 .0)))
-    ∙ ap (listBytes floatBytes) (rows-are _ _ _ (now (a .floats)) (q .0) (c .before .before .before .before .before .before .before .before .before .pack-section .ensures) fine))
+    ∙ put-whole _ (now (a .dst)) (q .1 ∙ sym (length-listBytes floatBytes 4 length-floatBytes _ ∙ ap (λ (n : ℕ). 4 * n) (at-pack-section .pack-section .kept .1 .1 .1 .0)))
+    ∙ ap (listBytes floatBytes) (rows-are _ _ _ (now (a .floats)) (q .0) (at-pack-section .pack-section .ensures) fine))
 
 same-length-3 : tie.Need-same-length-3
 same-length-3 c = search needs
@@ -53,8 +56,9 @@ same-length-3 c = search needs
 returns-2 : tie.Need-returns-2
 unfolding packNumber
 returns-2 c =
-    let a = c .before .before .before .before .before .before .before .before .args in
-    refused _ (now (a .dst)) (sym (number-is _ _ _ (now (a .floats)) (c .before .before .before .before .before .before .before .before .pre .0) (c .before .before .before .before .pack-section .ensures)) ∙ ap packNumber (c .enum-told2 .given .1))
+    let entry = c .before .before .before .before .before .before .before .before in
+    let a = entry .args in
+    refused _ (now (a .dst)) (sym (number-is _ _ _ (now (a .floats)) (entry .pre .0) (c .before .before .before .before .pack-section .ensures)) ∙ ap packNumber (c .enum-told2 .given .1))
 
 same-length-4 : tie.Need-same-length-4
 same-length-4 c = search needs
@@ -62,8 +66,9 @@ same-length-4 c = search needs
 returns-3 : tie.Need-returns-3
 unfolding packNumber
 returns-3 c =
-    let a = c .before .before .before .before .before .before .before .before .args in
-    refused _ (now (a .dst)) (sym (number-is _ _ _ (now (a .floats)) (c .before .before .before .before .before .before .before .before .pre .0) (c .before .before .before .before .pack-section .ensures)) ∙ ap packNumber (c .enum-told3 .given .1))
+    let entry = c .before .before .before .before .before .before .before .before in
+    let a = entry .args in
+    refused _ (now (a .dst)) (sym (number-is _ _ _ (now (a .floats)) (entry .pre .0) (c .before .before .before .before .pack-section .ensures)) ∙ ap packNumber (c .enum-told3 .given .1))
 
 pub fill-bytes-spec : {M : Type 1} → statement M
 fill-bytes-spec =

@@ -18,7 +18,8 @@ same-length c = search needs
 
 returns : tie.Need-returns
 returns c =
-    let a = c .before .before .before .before .before .before .before .args in
+    let entry = c .before .before .before .before .before .before .before in
+    let a = entry .args in
     c .before .before .fill-keyed .ensures ∙ ap (λ k. ffFillSection (a .section) (now (a .image)) k (now (a .dst))) (c .before .before .before .before .key-of .ensures)
 
 pub fill-section-spec : {M : Type 1} → statement M

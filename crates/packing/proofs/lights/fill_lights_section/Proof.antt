@@ -27,11 +27,15 @@ ok c = passed _ _ _ _ (c .before .is-length .ensures) (c .if1 .left)
 -- the resolved list: at most eight lights, which stand in front
 few : (c : tie.After-resolve-active-lights) → c .resolve-active-lights .result .len ≤ 8
 unfolding resolveActiveLights
-few c = subst (λ (l : ActiveLights). l .len ≤ 8) (sym (c .resolve-active-lights .ensures)) (listed-len (activeLights (c .before .before .before .before .before .args .s)))
+few c =
+    let entry = c .before .before .before .before .before in
+    subst (λ (l : ActiveLights). l .len ≤ 8) (sym (c .resolve-active-lights .ensures)) (listed-len (activeLights (entry .args .s)))
 
 front : (c : tie.After-resolve-active-lights) → take (c .resolve-active-lights .result .len) (c .resolve-active-lights .result .lights) ≡ take 8 (activeLights (c .before .before .before .before .before .args .s))
 unfolding resolveActiveLights
-front c = ap (λ (l : ActiveLights). take (l .len) (l .lights)) (c .resolve-active-lights .ensures) ∙ listed-front (activeLights (c .before .before .before .before .before .args .s))
+front c =
+    let entry = c .before .before .before .before .before in
+    ap (λ (l : ActiveLights). take (l .len) (l .lights)) (c .resolve-active-lights .ensures) ∙ listed-front (activeLights (entry .args .s))
 
 counted : (c : tie.After-resolve-active-lights) → c .resolve-active-lights .result .len ≡ length (take 8 (activeLights (c .before .before .before .before .before .args .s)))
 unfolding resolveActiveLights listed

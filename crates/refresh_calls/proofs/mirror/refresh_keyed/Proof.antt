@@ -28,7 +28,9 @@ good-image : (c : tie.Else2) → refused (now (c .before .before .before .before
 good-image c = sym (c .before .before .image-refused .ensures) ∙ c .before .if1 .left
 
 answer-of : (c : tie.After-refresh-answer) → c .refresh-answer .result ≡ refreshAnswer (stateOf (now (c .before .before .before .before .before .before .before .before .before .args .image))) (c .before .before .before .before .before .before .before .before .before .args .key) 4460
-answer-of c = c .refresh-answer .ensures ∙ ap (λ (s : FfState). refreshAnswer s (c .before .before .before .before .before .before .before .before .before .args .key) 4460) (c .before .state-of .ensures)
+answer-of c =
+    let entry = c .before .before .before .before .before .before .before .before .before in
+    c .refresh-answer .ensures ∙ ap (λ (s : FfState). refreshAnswer s (entry .args .key) 4460) (c .before .state-of .ensures)
 
 image-refused-requires : tie.Need-image-refused-requires
 image-refused-requires c κs = search needs

@@ -35,7 +35,9 @@ loop-less : tie.Need-loop-less Inv-loop μ-loop
 loop-less c = omega arith
 
 loop-again : tie.Need-loop-again Inv-loop μ-loop
-loop-again c = (omega arith, c .before .before .put-u32 .kept .0 ∙ c .before .before .before .before .before .before .loop .inv .1)
+loop-again c =
+    let turn = c .before .before .before .before .before .before in
+    (omega arith, c .before .before .put-u32 .kept .0 ∙ turn .loop .inv .1)
 
 same-length : tie.Need-same-length Inv-loop μ-loop
 same-length c = omega arith

@@ -27,7 +27,8 @@ same-length c = search needs
 
 returns : tie.Need-returns
 returns c =
-    let a = c .before .before .before .before .before .before .args in
+    let entry = c .before .before .before .before .before .before in
+    let a = entry .args in
     (omega arith, over (now (a .dst)) (now (a .s)) (c .before .before .copy .last .1 .0) (a .at) (omega arith) (c .before .before .copy .ensures .1))
 
 pub put-text-spec : {M : Type 1} → statement M

@@ -19,19 +19,27 @@ lights-section-rows-requires : tie.Need-lights-section-rows-requires
 lights-section-rows-requires c κs = search needs
 
 add-result : tie.Need-add-result
-add-result c = omega (arith, c .lights-section-rows .ensures, lights-most (c .before .before .before .before .before .args .key))
+add-result c =
+    let entry = c .before .before .before .before .before in
+    omega (arith, c .lights-section-rows .ensures, lights-most (entry .args .key))
 
 returns-2 : tie.Need-returns-2
 unfolding lightingReach lightCount
-returns-2 c = rw (not-false (c .before .before .before .before .before .args .key .«lighting_enabled») (c .before .before .before .if1 .left), ne-eqb _ 0 (c .before .if2 .taken)) (ap (λ n. 15 + n) (c .lights-section-rows .ensures))
+returns-2 c =
+    let entry = c .before .before .before .before .before in
+    rw (not-false (entry .args .key .«lighting_enabled») (c .before .before .before .if1 .left), ne-eqb _ 0 (c .before .if2 .taken)) (ap (λ n. 15 + n) (c .lights-section-rows .ensures))
 
 returns-3 : tie.Need-returns-3
 unfolding lightingReach
-returns-3 c = rw (not-false (c .before .before .before .before .before .args .key .«lighting_enabled») (c .before .before .before .if1 .left), eq-eqb _ 0 (c .before .if2 .left), c .if3 .taken)
+returns-3 c =
+    let entry = c .before .before .before .before .before in
+    rw (not-false (entry .args .key .«lighting_enabled») (c .before .before .before .if1 .left), eq-eqb _ 0 (c .before .if2 .left), c .if3 .taken)
 
 returns-4 : tie.Need-returns-4
 unfolding lightingReach
-returns-4 c = rw (not-false (c .before .before .before .before .before .args .key .«lighting_enabled») (c .before .before .before .if1 .left), eq-eqb _ 0 (c .before .if2 .left), c .if3 .left)
+returns-4 c =
+    let entry = c .before .before .before .before .before in
+    rw (not-false (entry .args .key .«lighting_enabled») (c .before .before .before .if1 .left), eq-eqb _ 0 (c .before .if2 .left), c .if3 .left)
 
 pub lighting-reach-spec : {M : Type 1} → statement M
 lighting-reach-spec =

@@ -29,7 +29,9 @@ mat-mul-requires : tie.Need-mat-mul-requires
 mat-mul-requires c κs = search needs
 
 placed-at-requires : tie.Need-placed-at-requires
-placed-at-requires c κs = in-range _ _ (sym (c .before .before .before .before .before .slot-of .ensures) ∙ c .before .before .before .place .given .1)
+placed-at-requires c κs =
+    let at-slot-of = c .before .before .before .before .before in
+    in-range _ _ (sym (at-slot-of .slot-of .ensures) ∙ c .before .before .before .place .given .1)
 
 place-bits-requires : tie.Need-place-bits-requires
 place-bits-requires c κs = search needs

@@ -18,7 +18,9 @@ mat-mul-requires-2 c κs = search needs
 
 returns : tie.Need-returns
 unfolding worldViewProjection
-returns c = c .mat-mul2 .ensures ∙ ap (λ (m : D3DMATRIX). matMul m (c .before .before .before .before .before .args .t1 .projection)) (c .before .before .mat-mul .ensures)
+returns c =
+    let entry = c .before .before .before .before .before in
+    c .mat-mul2 .ensures ∙ ap (λ (m : D3DMATRIX). matMul m (entry .args .t1 .projection)) (c .before .before .mat-mul .ensures)
 
 pub world-view-projection-spec : {M : Type 1} → statement M
 world-view-projection-spec =
