@@ -18,7 +18,7 @@ use Rattle.d3d9_model.specs.Operations.{known, abstractRefusal, abstractChange,
 use Rattle.d3d9_model.specs.Operations as Operations
 use Rattle.ff_state.specs.State.{noMatrix, withView, withProjection, withWorldPalette, withWorldPaletteHighWater, withTextureTransforms}
 use Rattle.sections.specs.Sections.{bitsOf, allBits}
-use Rattle.ff_state.specs.Transforms.{slotOf, InRange, placeSections, placeBits, placeMatrix, placed, changeAt, setTransform, multiplyTransform, readAt, transformOf, transformNumber}
+use Rattle.ff_state.specs.Transforms.{slotOf, InRange, placeSections, placeBits, placeMatrix, placed, changeAt, setTransform, multiplied, multiplyTransform, readAt, transformOf, transformNumber}
 use Rattle.ff_state.specs.Valid.{Valid}
 use Rattle.ff_state.specs.declared.state.FfState.{FfState}
 use Rattle.sections.specs.declared.sections.Section.{Section}
@@ -206,11 +206,11 @@ module _ {s : FfState} (v : Valid s) (n : ℕ) where
 
     pub multiply-number : transformNumber (multiplyTransform s n m .answer) ≡ cond (known n) 0 1
     unfolding multiplyTransform
-    multiply-number = number-is (λ p. matMul (placeMatrix s p) m)
+    multiply-number = number-is (multiplied s m)
 
     pub multiply-valid : Valid (multiplyTransform s n m .state)
     unfolding multiplyTransform
-    multiply-valid = change-valid (λ p. matMul (placeMatrix s p) m) (λ p. matMul-fits (placeMatrix s p) m)
+    multiply-valid = change-valid (multiplied s m) (λ p. matMul-fits (placeMatrix s p) m)
 
 matrix-at : {s : FfState} {a : AbstractState} → Agrees s a → (p : Place) → InRange p → placeMatrix s p ≡ a .matrix (number p)
 unfolding placeMatrix
@@ -223,7 +223,7 @@ module _ {s : FfState} {a : AbstractState} (v : Valid s) (g : Agrees s a) (n : �
   pub multiply-agrees : (m : D3DMATRIX) → Agrees (multiplyTransform s n m .state) (abstractStep a (Operations.multiplyTransform n m))
   unfolding multiplyTransform abstractStep abstractRefusal abstractChange
   multiply-agrees m =
-      change-agrees v n (λ p. matMul (placeMatrix s p) m) (matMul (a .matrix n) m)
+      change-agrees v n (multiplied s m) (matMul (a .matrix n) m)
       (λ p h e. ap (λ (x : D3DMATRIX). matMul x m) (matrix-at g p h ∙ ap (a .matrix) (sym e)))
       g
 

@@ -10,7 +10,6 @@ use lib.Seq.{getD-set-other}
 use Rattle.lemmas.proofs.Tests.{never, neither}
 use Rattle.lemmas.proofs.Branch.{branch}
 use mathlib.Core.List.{List}
-use Rattle.matrix.specs.Product.{matMul}
 use Rattle.d3d9_types.specs.Light.{defaultLight}
 use Rattle.d3d9_types.specs.declared.matrix.D3DMATRIX.{D3DMATRIX}
 use Rattle.d3d9_types.specs.declared.material.D3DMATERIAL9.{D3DMATERIAL9}
@@ -22,7 +21,7 @@ use Rattle.words.specs.Bits.{hasBit, withBit}
 use Rattle.ff_state.specs.State.{noMatrix, withMaterial, withLightEnabled, withOverflowLights, withOverflowCount, dirtyWord}
 use Rattle.light_table.specs.Entry.{lightEntry}
 use Rattle.ff_state.specs.Dirty.{dirtied, markFfVsDirty, takeFfVsDirty}
-use Rattle.ff_state.specs.Transforms.{slotOf, placeSections, placeBits, placed, placeMatrix, changeAt}
+use Rattle.ff_state.specs.Transforms.{slotOf, placeSections, placeBits, placed, changeAt, multiplied}
 use Rattle.ff_state.specs.Transforms as Transforms
 use Rattle.ff_state.specs.Material as Materials
 use Rattle.ff_state.specs.Lights.{setLightAt, setLightEnabledAt, changeEntry, replaceEntry, insertEntry, lightsBit, found, storedEntry, flag}
@@ -223,7 +222,7 @@ taken-same s Tt = refl
 pub unmarked-same : (s : FfState) (op : Operation) (σ : Section) → hasSection (dirtyWord (operate s op .state)) σ ≡ false → sameInputs σ s (operate s op .state)
 unfolding operate Transforms.setTransform Transforms.multiplyTransform
 unmarked-same s (setTransform n m) σ e = place-same s (slotOf n) (λ (p : Place). m) σ e
-unmarked-same s (multiplyTransform n m) σ e = place-same s (slotOf n) (λ (p : Place). matMul (placeMatrix s p) m) σ e
+unmarked-same s (multiplyTransform n m) σ e = place-same s (slotOf n) (multiplied s m) σ e
 unmarked-same s (setMaterial m) σ e = material-same s m σ e
 unmarked-same s (setLight i l) σ e = set-light-keeps s i l σ e
 unmarked-same s (enableLight i on) σ e = enable-light-keeps s i on σ e

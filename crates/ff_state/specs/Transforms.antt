@@ -73,8 +73,11 @@ unfoldable pub setTransform : FfState → ℕ → D3DMATRIX → TransformChanged
 setTransform s n m = changeAt s (slotOf n) (λ p. m)
 
 -- "Multiply stores slot × argument"
+abbrev pub multiplied : FfState → D3DMATRIX → Place → D3DMATRIX
+multiplied s m p = matMul (placeMatrix s p) m
+
 unfoldable pub multiplyTransform : FfState → ℕ → D3DMATRIX → TransformChanged
-multiplyTransform s n m = changeAt s (slotOf n) (λ p. matMul (placeMatrix s p) m)
+multiplyTransform s n m = changeAt s (slotOf n) (multiplied s m)
 
 unfoldable pub readAt : FfState → Slot → TransformRead
 readAt s (At p) = Reads.Matrix (placeMatrix s p)
