@@ -129,7 +129,7 @@ uint32_t ff_image_check(const uint8_t *image, size_t image_len);
  * projection PROJ; a texture matrix TT; world matrix 0 WV and PALETTE; the others PALETTE. Refuses 9, 1, 4. */
 uint32_t ff_set_transform(uint8_t *image, size_t image_len, uint32_t state, const uint8_t *matrix, size_t matrix_len);
 
-/* Stores stored x argument, and dirties as ff_set_transform does. Refuses 9, 1, 4. */
+/* Stores argument x stored, and dirties as ff_set_transform does. Refuses 9, 1, 4. */
 uint32_t ff_multiply_transform(uint8_t *image, size_t image_len, uint32_t state, const uint8_t *matrix,
                                size_t matrix_len);
 

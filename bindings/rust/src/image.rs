@@ -110,7 +110,7 @@ impl FfImage {
         })
     }
 
-    /// Stores stored × `matrix` and dirties as [`FfImage::set_transform`] does.
+    /// Stores `matrix` × stored and dirties as [`FfImage::set_transform`] does.
     pub fn multiply_transform(&mut self, state: u32, matrix: &Matrix) -> Result<(), Refusal> {
         let m = matrix.to_bytes();
         let image = &mut *self.bytes;

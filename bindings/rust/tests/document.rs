@@ -138,8 +138,9 @@ fn each_change_dirties_its_sections() {
     assert_eq!(state.take_ff_vs_dirty(), 63);
 }
 
+/// Document 02, T-02.
 #[test]
-fn multiply_stores_slot_times_argument() {
+fn multiply_stores_argument_times_slot() {
     let mut state = FfImage::fresh();
     let mut doubled = Matrix::IDENTITY;
     for i in 0..3 {
@@ -150,11 +151,11 @@ fn multiply_stores_slot_times_argument() {
         .unwrap();
     state.multiply_transform(D3DTS_WORLD, &doubled).unwrap();
     let product = state.transform(D3DTS_WORLD).unwrap();
-    assert_eq!(product.m[3], [2.0, 0.0, 0.0, 1.0]);
+    assert_eq!(product.m[3], [1.0, 0.0, 0.0, 1.0]);
     state
         .set_transform(D3DTS_VIEW, &moved(0.0, 3.0, 0.0))
         .unwrap();
-    assert_eq!(state.world_view_projection().m[3], [2.0, 3.0, 0.0, 1.0]);
+    assert_eq!(state.world_view_projection().m[3], [1.0, 3.0, 0.0, 1.0]);
 }
 
 #[test]

@@ -210,7 +210,7 @@ module _ {s : FfState} (v : Valid s) (n : ℕ) where
 
     pub multiply-valid : Valid (multiplyTransform s n m .state)
     unfolding multiplyTransform
-    multiply-valid = change-valid (multiplied s m) (λ p. matMul-fits (placeMatrix s p) m)
+    multiply-valid = change-valid (multiplied s m) (λ p. matMul-fits m (placeMatrix s p))
 
 matrix-at : {s : FfState} {a : AbstractState} → Agrees s a → (p : Place) → InRange p → placeMatrix s p ≡ a .matrix (number p)
 unfolding placeMatrix
@@ -223,8 +223,8 @@ module _ {s : FfState} {a : AbstractState} (v : Valid s) (g : Agrees s a) (n : �
   pub multiply-agrees : (m : D3DMATRIX) → Agrees (multiplyTransform s n m .state) (abstractStep a (Operations.multiplyTransform n m))
   unfolding multiplyTransform abstractStep abstractRefusal abstractChange
   multiply-agrees m =
-      change-agrees v n (multiplied s m) (matMul (a .matrix n) m)
-      (λ p h e. ap (λ (x : D3DMATRIX). matMul x m) (matrix-at g p h ∙ ap (a .matrix) (sym e)))
+      change-agrees v n (multiplied s m) (matMul m (a .matrix n))
+      (λ p h e. ap (matMul m) (matrix-at g p h ∙ ap (a .matrix) (sym e)))
       g
 
   -- a read refuses an unknown number, and gives the matrix of any other

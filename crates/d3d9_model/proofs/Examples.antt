@@ -55,8 +55,8 @@ marks : (a : AbstractState) → map (λ n. abstractRefusal a (mark n)) (0 ∷ 63
 unfolding abstractRefusal
 marks a = refl
 
--- slot × argument, not the other order; another number is left alone
-multiplied : (a : AbstractState) (m : D3DMATRIX) → abstractStep a (multiplyTransform 2 m) .matrix 2 ≡ matMul (a .matrix 2) m
+-- argument × slot, not the other order; another number is left alone
+multiplied : (a : AbstractState) (m : D3DMATRIX) → abstractStep a (multiplyTransform 2 m) .matrix 2 ≡ matMul m (a .matrix 2)
 unfolding abstractStep abstractRefusal abstractChange known
 multiplied a m = refl
 

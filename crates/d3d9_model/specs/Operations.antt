@@ -38,10 +38,10 @@ abstractRefusal a (setLight i l) = cond (full a i) 3 0
 abstractRefusal a (enableLight i on) = cond (full a i) 3 0
 abstractRefusal a (mark bits) = cond (leb bits 63) 0 7
 
--- "Set replaces a slot; multiply replaces it by its product", which is slot × argument
+-- "Set replaces a slot; multiply replaces it by its product", which is argument × slot (document 02, T-02)
 unfoldable pub abstractChange : AbstractState → Operation → AbstractState
 abstractChange a (setTransform n m) = replacedMatrix a n m
-abstractChange a (multiplyTransform n m) = replacedMatrix a n (matMul (a .matrix n) m)
+abstractChange a (multiplyTransform n m) = replacedMatrix a n (matMul m (a .matrix n))
 abstractChange a (setMaterial m) = replacedMaterial a m
 abstractChange a (setLight i l) = replacedLights a (lightSet i l (a .lights))
 abstractChange a (enableLight i on) = replacedLights a (lightEnabled i on (a .lights))

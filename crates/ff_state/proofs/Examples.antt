@@ -3,12 +3,19 @@ use Prim.Native.Nat.{ℕ}
 use mathlib.Core.Path.{_≡_, refl}
 use mathlib.Core.Bool.{true, false}
 use mathlib.Core.List.{List, [], _∷_, map}
+use lib.IntN.{pos}
+use lib.Ieee.{Float, binary32, ofInt, toBits, add, mul}
+use Rattle.d3d9_types.specs.Numbers.{zero, one}
 use Rattle.d3d9_types.specs.Light.{defaultLight}
+use Rattle.matrix.specs.Entry.{column, row}
+use Rattle.matrix.specs.Sum.{sumFrom}
+use Rattle.matrix.specs.Product.{dot, matMul}
 use Rattle.words.specs.Bits.{hasBit, withBit}
 use Rattle.light_table.specs.Entry.{zeroLight, zeroEntry}
 use Rattle.light_table.specs.Kinds.{contributes}
 use Rattle.light_table.specs.Overflow.{usedCount, lowerBound, findEntry, insertedAt}
 use Rattle.light_table.specs.Active.{slotsFrom, activeOverflow, lowBits, kindMask, masksOf, fourBytes}
+use Rattle.d3d9_types.specs.declared.matrix.Row.{Row}
 use Rattle.d3d9_types.specs.declared.matrix.D3DMATRIX.{D3DMATRIX}
 use Rattle.d3d9_types.specs.declared.material.D3DMATERIAL9.{D3DMATERIAL9}
 use Rattle.d3d9_types.specs.declared.light.D3DLIGHT9.{D3DLIGHT9}
@@ -16,7 +23,7 @@ use Rattle.d3d9_model.specs.Operations.{Operation, setTransform, multiplyTransf
 use Rattle.ff_state.specs.declared.state.FfState.{FfState}
 use Rattle.ff_state.specs.State.{freshState, dirtyWord}
 use Rattle.ff_state.specs.Dirty.{dirtied, markFfVsDirty, takeFfVsDirty}
-use Rattle.ff_state.specs.Transforms.{slotOf, placeSections, placed, changeAt, transformNumber, worldPaletteUsed}
+use Rattle.ff_state.specs.Transforms.{slotOf, placeSections, placeMatrix, placed, changeAt, transformNumber, worldPaletteUsed}
 use Rattle.ff_state.specs.Transforms as Transforms
 use Rattle.ff_state.specs.Material as Materials
 use Rattle.ff_state.specs.Operate.{operate}
@@ -95,3 +102,23 @@ palette-used : (m : D3DMATRIX)
     × (worldPaletteUsed (after (setTransform 263 m ∷ multiplyTransform 511 m ∷ []) freshState) ≡ 256)
 unfolding worldPaletteUsed operate Transforms.setTransform Transforms.multiplyTransform changeAt slotOf placed dirtied freshState
 palette-used m = (refl, refl, refl, refl)
+
+-- ---- Document 02, T-02: "Multiply now stores argument × slot"
+
+-- the identity with another diagonal and another last row
+abbrev corner : Float → Float → D3DMATRIX
+corner d x =
+    record {
+      r0 = record { x = d; y = zero; z = zero; w = zero };
+      r1 = record { x = zero; y = d; z = zero; w = zero };
+      r2 = record { x = zero; y = zero; z = d; w = zero };
+      r3 = record { x = x; y = zero; z = zero; w = one };
+    }
+
+abbrev bits : Row → List ℕ
+bits r = toBits binary32 (r .x) ∷ toBits binary32 (r .y) ∷ toBits binary32 (r .z) ∷ toBits binary32 (r .w) ∷ []
+
+-- a translation by 1,0,0 stands there and a scaling by 2 is the argument: the last row is 1,0,0,1
+scaled-banner : bits (after (setTransform 2 (corner one one) ∷ multiplyTransform 2 (corner (ofInt binary32 (pos 2)) zero) ∷ []) freshState .view .r3) ≡ 0x3F800000 ∷ 0 ∷ 0 ∷ 0x3F800000 ∷ []
+unfolding operate Transforms.setTransform Transforms.multiplyTransform changeAt slotOf placed placeMatrix dirtied freshState matMul dot column row sumFrom add mul ofInt toBits
+scaled-banner = refl

@@ -72,9 +72,9 @@ changeAt s Unknown f = record { answer = Answers.UnknownState; state = s }
 unfoldable pub setTransform : FfState → ℕ → D3DMATRIX → TransformChanged
 setTransform s n m = changeAt s (slotOf n) (λ p. m)
 
--- "Multiply stores slot × argument"
+-- Document 02, T-02: "Multiply now stores argument × slot."
 abbrev pub multiplied : FfState → D3DMATRIX → Place → D3DMATRIX
-multiplied s m p = matMul (placeMatrix s p) m
+multiplied s m p = matMul m (placeMatrix s p)
 
 unfoldable pub multiplyTransform : FfState → ℕ → D3DMATRIX → TransformChanged
 multiplyTransform s n m = changeAt s (slotOf n) (multiplied s m)

@@ -148,7 +148,7 @@ impl FfState {
         }
     }
 
-    // Stores slot x argument, as the Rust does; by document 01 Microsoft's page has the other order.
+    // Stores argument x slot, by document 02 the order of Microsoft's page; the Rust has the other.
     pub fn multiply_transform(self, state: u32, m: D3DMATRIX) -> TransformChanged
         ensures { λ r. ⌜ r ≡ multiplyTransform self state m ⌝ }
     {
@@ -158,7 +158,7 @@ impl FfState {
                 state: self,
             };
         };
-        let product = mat_mul(place_matrix(self, place), m);
+        let product = mat_mul(m, place_matrix(self, place));
         TransformChanged {
             answer: TransformAnswer::Accepted,
             state: with_dirty(placed_at(self, place, product), place_bits(place)),

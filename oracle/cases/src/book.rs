@@ -53,7 +53,7 @@ impl Book {
             }
             Name::MultiplyTransform => {
                 let slot = self.matrices.entry(number).or_insert(D3DMATRIX::IDENTITY);
-                *slot = FfState::mat_mul(slot, &records::matrix(&call.given));
+                *slot = FfState::mat_mul(&records::matrix(&call.given), slot);
             }
             Name::SetMaterial => self.material = records::material(&call.given),
             Name::SetLightAt => self.light(number).0 = records::light(&call.given),

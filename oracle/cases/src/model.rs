@@ -219,10 +219,10 @@ impl Model {
                 Output::Nothing
             }
             Name::MultiplyTransform => {
-                assert!(
-                    self.rust
-                        .multiply_transform(number, &records::matrix(&call.given))
-                );
+                // Document 02, T-02: argument x slot, where the Rust's own call stores slot x argument.
+                let argument = records::matrix(&call.given);
+                let product = FfState::mat_mul(&argument, self.transform(number));
+                assert!(self.rust.set_transform(number, &product));
                 self.raise_lowered(number);
                 Output::Nothing
             }

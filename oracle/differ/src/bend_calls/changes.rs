@@ -67,7 +67,7 @@ pub fn change_transform(bend: Bend, call: &Call, mut held: Held<'_>) -> u32 {
             if let Some(at) = image::place(call.number) {
                 let slot = before[at..at + 64].to_vec();
                 let mut product = [0; 64];
-                host::mat_mul(held.lent.given, &slot, &mut product);
+                host::mat_mul(&slot, held.lent.given, &mut product);
                 image[at..at + 64].copy_from_slice(&product);
             }
         }

@@ -1,4 +1,4 @@
--- `FfState::multiply_transform` meets its contract: as `set_transform`, with the product of what stands there and the argument. Assumes nothing.
+-- `FfState::multiply_transform` meets its contract: as `set_transform`, with the product of the argument and what stands there. Assumes nothing.
 use mathlib.Core.Path.{sym, ap, ap₂, _∙_}
 use Rattle.d3d9_types.specs.declared.matrix.D3DMATRIX.{D3DMATRIX}
 use Rattle.matrix.specs.Product.{matMul}
@@ -50,7 +50,7 @@ returns-2 c =
     (ap accepted
     (c .with-dirty .ensures
     ∙ ap₂ dirtied
-    (c .before .before .placed-at .ensures ∙ ap (λ (m : D3DMATRIX). placed (at .before .args .self) p m) (product .mat-mul .ensures ∙ ap (λ (m : D3DMATRIX). matMul m (at .before .args .m)) (product .before .place-matrix .ensures)))
+    (c .before .before .placed-at .ensures ∙ ap (λ (m : D3DMATRIX). placed (at .before .args .self) p m) (product .mat-mul .ensures ∙ ap (matMul (at .before .args .m)) (product .before .place-matrix .ensures)))
     (c .before .place-bits .ensures)))
 
 pub multiply-transform-spec : {M : Type 1} → statement M
