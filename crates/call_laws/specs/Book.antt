@@ -1,4 +1,4 @@
--- Two abstract states that no call tells apart. Document 01's plain book "holds matrices by state number, material, and lights by index, each with an enable"; beside them stands the highest palette index.
+-- Two abstract states that no refusal, read or later operation tells apart (proofs/Book). Document 01's plain book "holds matrices by state number, material, and lights by index, each with an enable"; beside them stands the highest palette index.
 use Prim.Native.Nat.{ℕ}
 use mathlib.Core.Path.{_≡_}
 use mathlib.Core.Bool.{true}
