@@ -1,6 +1,5 @@
 // The active lights of a state.
 ghost use mathlib.Core.Path.{_≡_};
-ghost use Prim.Native.Nat.{_≤_};
 ghost use Rattle.sections.specs.Key.{lightLimit};
 ghost use Rattle.ff_state.specs.Active.{lightActiveMask, resolveActiveLights, compactedLightMasks, vsSourceLightInputs};
 use d3d9_types::D3DLIGHT_DIRECTIONAL;
@@ -8,12 +7,11 @@ use d3d9_types::D3DLIGHT_SPOT;
 use ff_state::FfState;
 use light_table::ActiveLights;
 use light_table::LightMasks;
+use light_table::active_lights;
 use light_table::four_bytes;
 use light_table::kind_mask;
 use light_table::low_bits;
-use light_table::push_overflow;
 use light_table::push_slots;
-use light_table::used_count;
 use sections::FfVsKey;
 use sections::light_limit;
 
@@ -24,28 +22,32 @@ pub fn light_active_mask(s: FfState) -> u8
     s.light_set_mask & s.light_enabled
 }
 
-// The first `limit` of the active lights.
-fn first_active(s: FfState, limit: usize) -> ActiveLights
-    requires { ⌜ limit ≤ 8 ⌝ }
-    ensures { λ r. ⌜ r ≡ resolveActiveLights s limit ⌝ }
-{
-    let lights = s.lights;
-    let first = push_slots(lights, s.light_set_mask & s.light_enabled, limit);
-    let entries = s.overflow_lights;
-    push_overflow(entries, used_count(s.overflow_count), limit, first)
-}
-
-// The active lights that are packed under a key.
+// The active lights that are packed under a key. Parts are handed on, and the entries only where one is used: each would be copied.
 pub fn resolve_active_lights(s: FfState, key: FfVsKey) -> ActiveLights
     ensures { λ r. ⌜ r ≡ resolveActiveLights s (lightLimit key) ⌝ }
 {
-    first_active(s, light_limit(key))
+    let limit = light_limit(key);
+    let lights = s.lights;
+    let mask = s.light_set_mask & s.light_enabled;
+    if s.overflow_count == 0 {
+        return push_slots(lights, mask, limit);
+    }
+    let entries = s.overflow_lights;
+    active_lights(lights, mask, entries, s.overflow_count, limit)
 }
 
 pub fn compacted_light_masks(s: FfState) -> LightMasks
     ensures { λ r. ⌜ r ≡ compactedLightMasks s ⌝ }
 {
-    let list = first_active(s, 8);
+    let lights = s.lights;
+    let entries = s.overflow_lights;
+    let list = active_lights(
+        lights,
+        s.light_set_mask & s.light_enabled,
+        entries,
+        s.overflow_count,
+        8,
+    );
     LightMasks {
         active: low_bits(list.len),
         directional: kind_mask(list, D3DLIGHT_DIRECTIONAL),

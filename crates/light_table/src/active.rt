@@ -2,9 +2,12 @@
 ghost use mathlib.Core.Path.{_≡_};
 ghost use Prim.Native.Nat.{_≤_, _<_};
 ghost use lib.ListN.{take};
-ghost use Rattle.light_table.specs.Active.{activeSlots, isActive, activeOverflow, noLights, pushAll, kindMask, lowBits, fourBytes};
+ghost use mathlib.Core.List.{_++_};
+ghost use Rattle.light_table.specs.Overflow.{usedCount};
+ghost use Rattle.light_table.specs.Active.{activeSlots, isActive, activeOverflow, listed, noLights, pushAll, kindMask, lowBits, fourBytes};
 use crate::entry::OverflowLight;
 use crate::kinds::light_type_contributes;
+use crate::overflow::used_count;
 use d3d9_types::D3DLIGHT9;
 use d3d9_types::default_light;
 use words::has_bit;
@@ -54,7 +57,7 @@ pub fn push_slots(lights: [D3DLIGHT9; 8], mask: u8, limit: usize) -> ActiveLight
     list
 }
 
-pub fn push_overflow(
+fn push_overflow(
     entries: [OverflowLight; 56],
     used: usize,
     limit: usize,
@@ -78,6 +81,22 @@ pub fn push_overflow(
         i = i + 1;
     }
     list
+}
+
+// The first `limit` of the active lights of slots and table.
+pub fn active_lights(
+    lights: [D3DLIGHT9; 8],
+    mask: u8,
+    entries: [OverflowLight; 56],
+    count: u16,
+    limit: usize,
+) -> ActiveLights
+    requires { ⌜ limit ≤ 8 ⌝ }
+    ensures { λ r. ⌜ r ≡ listed limit (activeSlots mask lights ++ activeOverflow (take (usedCount count) entries)) ⌝ }
+{
+    let first = push_slots(lights, mask, limit);
+    let used = used_count(count);
+    push_overflow(entries, used, limit, first)
 }
 
 // The n lowest bits.

@@ -7,10 +7,10 @@ mod overflow;
 
 pub use active::ActiveLights;
 pub use active::LightMasks;
+pub use active::active_lights;
 pub use active::four_bytes;
 pub use active::kind_mask;
 pub use active::low_bits;
-pub use active::push_overflow;
 pub use active::push_slots;
 pub use entry::OverflowLight;
 pub use entry::zero_light;

@@ -3,28 +3,28 @@ use Prim.Native.Nat.{_≤_}
 use mathlib.Core.Path.{_≡_, sym, ap, subst, _∙_}
 use borrow.Author.Needs.{needs}
 use lib.ListN.{length, take}
-use Rattle.ff_state.specs.Active.{activeLights, compactedLightMasks, resolveActiveLights}
+use Rattle.ff_state.specs.Active.{lightActiveMask, activeLights, compactedLightMasks, resolveActiveLights}
 use Rattle.light_table.specs.Active.{listed, kindMask, lowBits, masksOf}
 use Rattle.light_table.specs.declared.active.ActiveLights.{ActiveLights}
 use Rattle.light_table.proofs.Compaction.{listed-len, listed-front}
 use Rattle.ff_lights.proofs.active.compacted_light_masks.Statement.{statement}
 use Rattle.ff_lights.proofs.active.compacted_light_masks.Tie as tie
 
-first-active-requires : tie.Need-first-active-requires
-first-active-requires c κs = search needs
+active-lights-requires : tie.Need-active-lights-requires
+active-lights-requires c κs = search needs
 
 -- the list has at most eight lights, which stand in front
-few : (c : tie.After-first-active) → c .first-active .result .len ≤ 8
-unfolding resolveActiveLights
-few c = subst (λ (a : ActiveLights). a .len ≤ 8) (sym (c .first-active .ensures)) (listed-len (activeLights (c .before .args .s)))
+few : (c : tie.After-active-lights) → c .active-lights .result .len ≤ 8
+unfolding resolveActiveLights activeLights lightActiveMask
+few c = subst (λ (a : ActiveLights). a .len ≤ 8) (sym (c .active-lights .ensures)) (listed-len (activeLights (c .before .before .before .before .args .s)))
 
-front : (c : tie.After-first-active) → take (c .first-active .result .len) (c .first-active .result .lights) ≡ take 8 (activeLights (c .before .args .s))
-unfolding resolveActiveLights
-front c = ap (λ (a : ActiveLights). take (a .len) (a .lights)) (c .first-active .ensures) ∙ listed-front (activeLights (c .before .args .s))
+front : (c : tie.After-active-lights) → take (c .active-lights .result .len) (c .active-lights .result .lights) ≡ take 8 (activeLights (c .before .before .before .before .args .s))
+unfolding resolveActiveLights activeLights lightActiveMask
+front c = ap (λ (a : ActiveLights). take (a .len) (a .lights)) (c .active-lights .ensures) ∙ listed-front (activeLights (c .before .before .before .before .args .s))
 
-counted : (c : tie.After-first-active) → c .first-active .result .len ≡ length (take 8 (activeLights (c .before .args .s)))
-unfolding resolveActiveLights listed
-counted c = ap (λ (a : ActiveLights). a .len) (c .first-active .ensures)
+counted : (c : tie.After-active-lights) → c .active-lights .result .len ≡ length (take 8 (activeLights (c .before .before .before .before .args .s)))
+unfolding resolveActiveLights activeLights lightActiveMask listed
+counted c = ap (λ (a : ActiveLights). a .len) (c .active-lights .ensures)
 
 low-bits-requires : tie.Need-low-bits-requires
 low-bits-requires c κs = few c
@@ -48,7 +48,7 @@ pub compacted-light-masks-spec : {M : Type 1} → statement M
 compacted-light-masks-spec =
     tie.close
     (tie.spec
-    first-active-requires
+    active-lights-requires
     low-bits-requires
     kind-mask-requires
     kind-mask-requires-2
