@@ -1,0 +1,3 @@
+pub mod Item
+pub mod Fields
+pub mod Placed
