@@ -3,7 +3,7 @@
 use Prim.Native.Nat.{ℕ, _+_, _-_, _*_, _≤_, _<_, _^_, max}
 use native.Mathlib.Nat.{max-eq-left, max-eq-right}
 use native.Mathlib.Omega.{arith}
-use mathlib.Core.Path.{_≡_, refl, sym, _∙_}
+use mathlib.Core.Path.{_≡_, refl, sym, _∙_, ap}
 use mathlib.Core.Bool.{Bool, true, false, cond}
 use mathlib.Core.List.{[], _∷_}
 use lib.Bits.{bitOr}
@@ -20,6 +20,7 @@ use Rattle.sections.specs.declared.sections.Section.the-variants as Sections
 use Rattle.ff_state.specs.declared.transforms.Place.the-variants.{Texture, Palette}
 use Rattle.ff_state.specs.Transforms.{slotOf, placeSections, placeBits, placed, changeAt, setTransform, transformNumber}
 use Rattle.ff_state.specs.declared.state.FfState.{FfState}
+use Rattle.lent_state.specs.Calls.{ffStateSetTransform}
 
 -- the greater of two by their test
 abbrev pub raised : ℕ → ℕ → ℕ
@@ -96,37 +97,37 @@ module _ (h : FfState) (m : D3DMATRIX) where
 
   -- the answer and the state are those of `setTransform`
   abbrev pub Says : ℕ → ℕ → FfState → Type 0
-  Says n r z = (r ≡ transformNumber (setTransform h n m .answer)) × (z ≡ setTransform h n m .state)
+  Says n r z = (r, z) ≡ ffStateSetTransform h n m
 
   module _ (n : ℕ) where
     pub is-view : n ≡ 2 → Says n 0 viewed
     unfolding setTransform changeAt slotOf placed placeSections dirtied transformNumber
-    is-view e = rw e (refl, refl)
+    is-view e = rw e refl
 
     pub is-projection : n ≡ 3 → Says n 0 projected
     unfolding setTransform changeAt slotOf placed placeSections dirtied transformNumber
-    is-projection e = rw e (refl, refl)
+    is-projection e = rw e refl
 
     pub is-low : eqb n 2 ≡ false → eqb n 3 ≡ false → n < 16 → Says n 1 h
     unfolding setTransform changeAt slotOf transformNumber
-    is-low not2 not3 lt = rw (not2, not3, lt-ltb n 16 lt) (refl, refl)
+    is-low not2 not3 lt = rw (not2, not3, lt-ltb n 16 lt) refl
 
     pub is-texture : eqb n 2 ≡ false → eqb n 3 ≡ false → 16 ≤ n → n < 24 → (z : FfState) → z ≡ dirtied (placed h (Texture (n - 16)) m) (placeBits (Texture (n - 16))) → Says n 0 z
     unfolding setTransform changeAt slotOf transformNumber
-    is-texture not2 not3 from lt z is = rw (not2, not3, le-ltb n 16 from, lt-ltb n 24 lt) (refl, is)
+    is-texture not2 not3 from lt z is = rw (not2, not3, le-ltb n 16 from, lt-ltb n 24 lt) (ap (λ (y : FfState). (0, y)) is)
 
     pub is-between : eqb n 2 ≡ false → eqb n 3 ≡ false → 24 ≤ n → n < 256 → Says n 1 h
     unfolding setTransform changeAt slotOf transformNumber
     is-between not2 not3 from lt =
         let past : 16 ≤ n = omega arith in
-        rw (not2, not3, le-ltb n 16 past, le-ltb n 24 from, lt-ltb n 256 lt) (refl, refl)
+        rw (not2, not3, le-ltb n 16 past, le-ltb n 24 from, lt-ltb n 256 lt) refl
 
     pub is-world : eqb n 2 ≡ false → eqb n 3 ≡ false → 256 ≤ n → n < 512 → (z : FfState) → z ≡ dirtied (placed h (Palette (n - 256)) m) (placeBits (Palette (n - 256))) → Says n 0 z
     unfolding setTransform changeAt slotOf transformNumber
     is-world not2 not3 from lt z is =
         let past : 16 ≤ n = omega arith in
         let beyond : 24 ≤ n = omega arith in
-        rw (not2, not3, le-ltb n 16 past, le-ltb n 24 beyond, le-ltb n 256 from, lt-ltb n 512 lt) (refl, is)
+        rw (not2, not3, le-ltb n 16 past, le-ltb n 24 beyond, le-ltb n 256 from, lt-ltb n 512 lt) (ap (λ (y : FfState). (0, y)) is)
 
     pub is-high : eqb n 2 ≡ false → eqb n 3 ≡ false → 512 ≤ n → Says n 1 h
     unfolding setTransform changeAt slotOf transformNumber
@@ -134,4 +135,4 @@ module _ (h : FfState) (m : D3DMATRIX) where
         let past : 16 ≤ n = omega arith in
         let beyond : 24 ≤ n = omega arith in
         let behind : 256 ≤ n = omega arith in
-        rw (not2, not3, le-ltb n 16 past, le-ltb n 24 beyond, le-ltb n 256 behind, le-ltb n 512 from) (refl, refl)
+        rw (not2, not3, le-ltb n 16 past, le-ltb n 24 beyond, le-ltb n 256 behind, le-ltb n 512 from) refl

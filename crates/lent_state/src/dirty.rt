@@ -1,11 +1,12 @@
 // The dirty bits of a lent state.
 ghost use mathlib.Core.Path.{_≡_};
-ghost use Rattle.ff_state.specs.Dirty.{markFfVsDirty, markNumber, takeFfVsDirty};
+ghost use Rattle.lent_state.specs.Calls.{ffStateMarkFfVsDirty, ffStateTakeFfVsDirty};
 use ff_state::FfState;
 
 // 0, or 7 for a bit that is no section's.
-pub fn mark_ff_vs_dirty(s: &mut FfState, bits: u32) -> u32
-    ensures { λ r. ⌜ (r ≡ markNumber (markFfVsDirty (now (s .entry)) bits .answer)) × (now (s .exit) ≡ markFfVsDirty (now (s .entry)) bits .state) ⌝ }
+#[no_mangle]
+pub extern "C" fn ff_state_mark_ff_vs_dirty(s: &mut FfState, bits: u32) -> u32
+    ensures { λ r. ⌜ (r, now (s .exit)) ≡ ffStateMarkFfVsDirty (now (s .entry)) bits ⌝ }
 {
     if bits < 64 {
         s.ff_vs_dirty = s.ff_vs_dirty | bits as u8;
@@ -14,11 +15,12 @@ pub fn mark_ff_vs_dirty(s: &mut FfState, bits: u32) -> u32
     7
 }
 
-// The dirty bits, which are none afterwards.
-pub fn take_ff_vs_dirty(s: &mut FfState) -> u32
-    ensures { λ r. ⌜ (r ≡ takeFfVsDirty (now (s .entry)) .bits) × (now (s .exit) ≡ takeFfVsDirty (now (s .entry)) .state) ⌝ }
+// 0; the dirty bits go to `out`, and are none afterwards.
+#[no_mangle]
+pub extern "C" fn ff_state_take_ff_vs_dirty(s: &mut FfState, out: &mut u32) -> u32
+    ensures { λ r. ⌜ (r, now (out .exit), now (s .exit)) ≡ ffStateTakeFfVsDirty (now (s .entry)) ⌝ }
 {
-    let bits = s.ff_vs_dirty as u32;
+    *out = s.ff_vs_dirty as u32;
     s.ff_vs_dirty = 0;
-    bits
+    0
 }

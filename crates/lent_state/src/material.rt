@@ -1,12 +1,15 @@
 // The material of a lent state.
 ghost use mathlib.Core.Path.{_≡_};
-ghost use Rattle.ff_state.specs.Material.{setMaterial};
+ghost use Rattle.lent_state.specs.Calls.{ffStateSetMaterial};
 use d3d9_types::D3DMATERIAL9;
 use ff_state::FfState;
 
-pub fn set_material(s: &mut FfState, m: D3DMATERIAL9)
-    ensures { λ _. ⌜ now (s .exit) ≡ setMaterial (now (s .entry)) m ⌝ }
+// 0.
+#[no_mangle]
+pub extern "C" fn ff_state_set_material(s: &mut FfState, material: &D3DMATERIAL9) -> u32
+    ensures { λ r. ⌜ (r, now (s .exit)) ≡ ffStateSetMaterial (now (s .entry)) (now (material .entry)) ⌝ }
 {
-    s.material = m;
+    s.material = *material;
     s.ff_vs_dirty = s.ff_vs_dirty | 4;
+    0
 }

@@ -1,11 +1,15 @@
 // The transforms of a lent state.
 ghost use mathlib.Core.Path.{_≡_};
 ghost use Prim.Native.Nat.{_<_};
+ghost use Rattle.lent_state.specs.Calls.{ffStateSetTransform, ffStateMultiplyTransform};
 ghost use Rattle.ff_state.specs.Dirty.{dirtied};
-ghost use Rattle.ff_state.specs.Transforms.{placed, placeBits, setTransform, transformNumber};
+ghost use Rattle.ff_state.specs.Transforms.{slotOf, placeMatrix, placed, placeBits};
+ghost use Rattle.ff_state.specs.declared.transforms.Place.{Place};
 ghost use Rattle.ff_state.specs.declared.transforms.Place.the-variants.{Texture, Palette};
+ghost use Rattle.ff_state.specs.declared.transforms.Slot.the-variants.{At};
 use d3d9_types::D3DMATRIX;
 use ff_state::FfState;
+use matrix::mat_mul;
 
 fn set_texture(s: &mut FfState, i: usize, m: D3DMATRIX)
     requires { ⌜ i < 8 ⌝ }
@@ -27,9 +31,8 @@ fn set_world(s: &mut FfState, i: usize, m: D3DMATRIX)
     s.ff_vs_dirty = s.ff_vs_dirty | 16 + (i == 0) as u8;
 }
 
-// 0, or 1 for a number that names no transform.
-pub fn set_transform(s: &mut FfState, state: u32, m: D3DMATRIX) -> u32
-    ensures { λ r. ⌜ (r ≡ transformNumber (setTransform (now (s .entry)) state m .answer)) × (now (s .exit) ≡ setTransform (now (s .entry)) state m .state) ⌝ }
+fn set_transform(s: &mut FfState, state: u32, m: D3DMATRIX) -> u32
+    ensures { λ r. ⌜ (r, now (s .exit)) ≡ ffStateSetTransform (now (s .entry)) state m ⌝ }
 {
     if state == 2 {
         s.view = m;
@@ -56,4 +59,41 @@ pub fn set_transform(s: &mut FfState, state: u32, m: D3DMATRIX) -> u32
         return 0;
     }
     1
+}
+
+// The matrix that a number names; for a number that names none, some matrix.
+fn matrix_at(s: &mut FfState, state: u32) -> D3DMATRIX
+    ensures { λ r. ⌜ ((p : Place) → slotOf state ≡ At p → r ≡ placeMatrix (now (s .entry)) p) × (now (s .exit) ≡ now (s .entry)) ⌝ }
+{
+    if state == 3 {
+        return s.projection;
+    }
+    if state < 16 {
+        return s.view;
+    }
+    if state < 24 {
+        return s.texture_transforms[(state - 16) as usize];
+    }
+    s.world_palette[(state % 256) as usize]
+}
+
+// 0, or 1 for a number that names no transform.
+#[no_mangle]
+pub extern "C" fn ff_state_set_transform(s: &mut FfState, state: u32, matrix: &D3DMATRIX) -> u32
+    ensures { λ r. ⌜ (r, now (s .exit)) ≡ ffStateSetTransform (now (s .entry)) state (now (matrix .entry)) ⌝ }
+{
+    set_transform(s, state, *matrix)
+}
+
+// 0, or 1 for a number that names no transform. Stores argument x slot.
+#[no_mangle]
+pub extern "C" fn ff_state_multiply_transform(
+    s: &mut FfState,
+    state: u32,
+    matrix: &D3DMATRIX,
+) -> u32
+    ensures { λ r. ⌜ (r, now (s .exit)) ≡ ffStateMultiplyTransform (now (s .entry)) state (now (matrix .entry)) ⌝ }
+{
+    let slot = matrix_at(s, state);
+    set_transform(s, state, mat_mul(*matrix, slot))
 }

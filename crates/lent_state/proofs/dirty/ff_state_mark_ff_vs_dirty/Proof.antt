@@ -1,4 +1,4 @@
--- `lent_state::dirty::mark_ff_vs_dirty` meets its contract: a walk of its MIR. Where the bits are those of sections the borrow is opened, the byte written, and the borrow closed at
+-- `lent_state::dirty::ff_state_mark_ff_vs_dirty` meets its contract: a walk of its MIR. Where the bits are those of sections the borrow is opened, the byte written, and the borrow closed at
 -- the state with more bits dirty; else it stays shut. Assumes nothing.
 use mathlib.Core.Path.{_≡_, refl}
 use Prim.Native.Nat.{ℕ, _≤_, _<_, _^_}
@@ -45,11 +45,12 @@ use Rattle.ff_state.specs.Dirty.{dirtied, markFfVsDirty, markNumber}
 use Rattle.ff_state.specs.declared.state.FfState.{FfState}
 use Rattle.ff_state.proofs.state.FfState as St
 use Rattle.ff_state.proofs.state.FfState.Laws as St′
+use Rattle.lent_state.specs.Calls.{ffStateMarkFfVsDirty}
 use Rattle.lent_state.proofs.Fields.{stateVal, dirty-fits, with-dirty}
-use Rattle.lent_state.proofs.dirty.mark_ff_vs_dirty.Key.{name as #mark}
-use Rattle.lent_state.proofs.dirty.mark_ff_vs_dirty as f
-use Rattle.lent_state.proofs.dirty.mark_ff_vs_dirty.Statement as stated
-use Rattle.lent_state.proofs.dirty.mark_ff_vs_dirty.Code as code
+use Rattle.lent_state.proofs.dirty.ff_state_mark_ff_vs_dirty.Key.{name as #mark}
+use Rattle.lent_state.proofs.dirty.ff_state_mark_ff_vs_dirty as f
+use Rattle.lent_state.proofs.dirty.ff_state_mark_ff_vs_dirty.Statement as stated
+use Rattle.lent_state.proofs.dirty.ff_state_mark_ff_vs_dirty.Code as code
 
 abbrev stayed : Stays (f.ended .signature .params) (f.ended .kept)
 stayed = (stay-ref (0 ∷ []) tt (plain (λ _. St.the-row)), (stay-none (λ _. u32) yes, tt))
@@ -75,15 +76,15 @@ module _ {M : Type 1} (𝓤 : URA M) (H : Heap 𝓤) (A : Atoms 𝓤) (W : Given
   d = bitOr (dirtyWord h) n
 
   abbrev Says : ℕ → FfState → Type 0
-  Says r z = (r ≡ markNumber (markFfVsDirty h n .answer)) × (z ≡ markFfVsDirty h n .state)
+  Says r z = (r, z) ≡ ffStateMarkFfVsDirty h n
 
   held : n < 64 → Says 0 (withFfVsDirty h d)
   unfolding markFfVsDirty markNumber dirtied
-  held lt = rw (holds n lt) (refl, refl)
+  held lt = rw (holds n lt) refl
 
   failed : 64 ≤ n → Says 7 h
   unfolding markFfVsDirty markNumber
-  failed le = rw (fails n le) (refl, refl)
+  failed le = rw (fails n le) refl
 
   abbrev at : List Val × (List Val × Unit {0})
   at = (vptr b o ∷ [], (vint w32 n ∷ [], tt))
@@ -142,9 +143,9 @@ meets 𝓤 H A W mem run 𝓣 =
     walk-meets 𝓤 H A f.ended stayed W (goes-ref 𝓤 H A W 1 0 tt (plain (λ _. St.the-row)), (goes-none 𝓤 H A W 1 (λ _. u32) yes (λ κs x f. refl), tt)) (f.clauses 𝓤 H A mem run)
     (WpFn 𝓤 H (𝓣 .C) (𝓣 .Λ) code.function) (WpFn-mono 𝓤 H (W .laws) 𝓣 code.function) (walks 𝓤 H A W mem run (𝓣 .C) (𝓣 .Λ))
 
-pub mark-ff-vs-dirty-spec : {M : Type 1} → stated.statement M
+pub ff-state-mark-ff-vs-dirty-spec : {M : Type 1} → stated.statement M
 unfolding code.routine tablesOf
-mark-ff-vs-dirty-spec 𝓤 H 𝓜 𝓖 𝓡 =
+ff-state-mark-ff-vs-dirty-spec 𝓤 H 𝓜 𝓖 𝓡 =
     entered 𝓤 H (tripleOf 𝓤 H (𝓖 .A) f.signature (f.spec 𝓤 H (𝓖 .A) (𝓜 .mem) (𝓡 .run)))
     (tables 𝓤 H 𝓜 𝓡 code.env .C) (tables 𝓤 H 𝓜 𝓡 code.env .Λ) #mark code.function (code.unfolded 𝓤 H 𝓜 𝓡)
     (meets 𝓤 H (𝓖 .A) (givenOf 𝓤 H 𝓜 𝓖) (𝓜 .mem) (𝓡 .run) (tablesOf 𝓤 H 𝓜 (tables 𝓤 H 𝓜 𝓡 code.env)))
