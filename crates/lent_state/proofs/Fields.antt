@@ -3,8 +3,8 @@ use mathlib.Core.Path.{_≡_, refl, sym, subst}
 use Prim.Native.Nat.{ℕ, _<_, _^_}
 use mathlib.Core.List.{List, [], _∷_}
 use lib.Bits.{bitOr, or-lt}
-use lib.ListN.{length, set}
-use mir.Val.{Val}
+use lib.ListN.{length, set, getD}
+use mir.Val.{Val, vunit}
 use denote.Laws.{Is}
 use denote.Struct.Laws as LL
 use Rattle.d3d9_types.specs.declared.matrix.D3DMATRIX.{D3DMATRIX}
@@ -13,11 +13,11 @@ use Rattle.d3d9_types.proofs.matrix.D3DMATRIX.Laws as Mx′
 use Rattle.d3d9_types.specs.declared.material.D3DMATERIAL9.{D3DMATERIAL9}
 use Rattle.d3d9_types.proofs.material.D3DMATERIAL9 as Mt
 use Rattle.d3d9_types.proofs.material.D3DMATERIAL9.Laws as Mt′
-use Rattle.ff_state.specs.State.{withMaterial, withView, withProjection, withWorldPalette, withWorldPaletteHighWater, withTextureTransforms, withFfVsDirty, dirtyWord}
+use Rattle.ff_state.specs.State.{withMaterial, withView, withProjection, withWorldPalette, withWorldPaletteHighWater, withTextureTransforms, withFfVsDirty, dirtyWord, noMatrix}
 use Rattle.ff_state.specs.declared.state.FfState.{FfState}
 use Rattle.ff_state.proofs.state.FfState as St
 use Rattle.ff_state.proofs.state.FfState.Laws as St′
-use Rattle.lent_state.proofs.Item.{vals, array-set, array-length}
+use Rattle.lent_state.proofs.Item.{vals, vals-get, array-get, array-set, array-length}
 
 -- the machine's values of a state and of a matrix
 abbrev pub stateVal : FfState → Val
@@ -64,6 +64,25 @@ textures-length h was = array-length Mx.the-field Mx′.the-field-laws 8 (h .«t
 
 pub texture-in : (h : FfState) (i : ℕ) → IsState h → i < 8 → i < length (matrixVals (h .«texture_transforms»))
 texture-in h i was lt = subst (λ (k : ℕ). i < k) (sym (textures-length h was)) lt
+
+pub view-is : (h : FfState) → IsState h → IsMatrix (h .view)
+view-is h was = LL.owed St.the-type St′.the-laws h _ was .0
+
+pub projection-is : (h : FfState) → IsState h → IsMatrix (h .projection)
+projection-is h was = LL.owed St.the-type St′.the-laws h _ was .1 .0
+
+-- an element of an array, and its machine value
+pub texture-is : (h : FfState) (i : ℕ) → IsState h → i < 8 → IsMatrix (getD (h .«texture_transforms») i noMatrix)
+texture-is h i was lt = array-get Mx.the-field Mx′.the-field-laws 8 (h .«texture_transforms») i noMatrix (texture-in h i was lt) (LL.owed St.the-type St′.the-laws h _ was .1 .1 .1 .1 .0)
+
+pub texture-val : (h : FfState) (i : ℕ) → IsState h → i < 8 → getD (matrixVals (h .«texture_transforms»)) i vunit ≡ matrixVal (getD (h .«texture_transforms») i noMatrix)
+texture-val h i was lt = vals-get Mx.the-field Mx′.the-field-laws (h .«texture_transforms») i noMatrix (texture-in h i was lt)
+
+pub palette-is : (h : FfState) (i : ℕ) → IsState h → i < 256 → IsMatrix (getD (h .«world_palette») i noMatrix)
+palette-is h i was lt = array-get Mx.the-field Mx′.the-field-laws 256 (h .«world_palette») i noMatrix (palette-in h i was lt) (LL.owed St.the-type St′.the-laws h _ was .1 .1 .0)
+
+pub palette-val : (h : FfState) (i : ℕ) → IsState h → i < 256 → getD (matrixVals (h .«world_palette»)) i vunit ≡ matrixVal (getD (h .«world_palette») i noMatrix)
+palette-val h i was lt = vals-get Mx.the-field Mx′.the-field-laws (h .«world_palette») i noMatrix (palette-in h i was lt)
 
 -- ---- written
 
