@@ -10,11 +10,14 @@ use lib.ListN.{getD}
 use borrow.Author.Tests.{lt-ltb, le-ltb, ltb-true, ltb-false, ne-eqb}
 use Rattle.d3d9_types.specs.declared.matrix.D3DMATRIX.{D3DMATRIX}
 use Rattle.ff_state.specs.State.{noMatrix}
-use Rattle.ff_state.specs.Transforms.{slotOf, placeMatrix}
+use Rattle.matrix.specs.Product.{matMul}
+use Rattle.ff_state.specs.Transforms.{slotOf, placeMatrix, changeAt, setTransform, multiplyTransform, multiplied, transformNumber}
 use Rattle.ff_state.specs.declared.transforms.Place.{Place}
 use Rattle.ff_state.specs.declared.transforms.Place.the-variants.{View, Projection, Texture, Palette}
+use Rattle.ff_state.specs.declared.transforms.Slot.{Slot}
 use Rattle.ff_state.specs.declared.transforms.Slot.the-variants.{At, Unknown}
 use Rattle.ff_state.specs.declared.state.FfState.{FfState}
+use Rattle.lent_state.specs.Calls.{ffStateSetTransform, ffStateMultiplyTransform}
 
 module _ (h : FfState) (n : ℕ) where
   abbrev pub Names : D3DMATRIX → Type 0
@@ -69,3 +72,14 @@ module _ (h : FfState) (n : ℕ) where
       by-low : (t : Bool) → ltb n 256 ≡ t → getD (h .«world_palette») (n % 256) noMatrix ≡ placeMatrix h p
       by-low true e = no-place p (rw (not2, not3, past, le-ltb n 24 from, e) refl) f
       by-low false e = by-high (ltb n 512) e refl
+
+  -- the product with the matrix named, set there, is what a multiply leaves
+  pub multiplied-is : (m r : D3DMATRIX) → Names r → ffStateSetTransform h n (matMul m r) ≡ ffStateMultiplyTransform h n m
+  unfolding setTransform multiplyTransform changeAt
+  multiplied-is m r names = by-slot (slotOf n) refl
+    where
+      by-slot : (s : Slot) → slotOf n ≡ s
+          → _≡_ {A = ℕ × FfState} (transformNumber (changeAt h s (λ p. matMul m r) .answer), changeAt h s (λ p. matMul m r) .state)
+          (transformNumber (changeAt h s (multiplied h m) .answer), changeAt h s (multiplied h m) .state)
+      by-slot (At p) e = rw (names p e) refl
+      by-slot Unknown e = refl
