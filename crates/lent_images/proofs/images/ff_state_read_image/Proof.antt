@@ -30,7 +30,6 @@ use denote.Ref.{RefT, MutRef, ptr-vals, mut-tells}
 use denote.Signature.{plain, shrSliceOf}
 use denote.Steps.{only, opens, closes, owned, peeks, heard, nothing}
 use denote.Struct.Steps.{spelt}
-use denote.Struct.Declared.{fields}
 use denote.Struct.Laws as LL
 use denote.Triple.Statement.{Contract, Triple}
 use denote.Triple.Call.{calls-at}
