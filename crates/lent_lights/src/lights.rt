@@ -1,9 +1,11 @@
-// Lights by any index. A call is the one by value, on a copy of the state that is stored back whole.
+// Lights by any index. A light goes into its slot in place; any other call is the one by value, on a
+// copy of the state that is stored back whole.
 ghost use mathlib.Core.Path.{_≡_};
 ghost use mathlib.Core.Bool.{not};
 ghost use lib.Dec.{eqb};
 ghost use Rattle.ff_state.specs.Lights.{setLightAt, setLightEnabledAt, lightNumber};
 ghost use Rattle.lent_lights.specs.Calls.{numbered, ffStateSetLightAt, ffStateSetLightEnabledAt, ffStateVsSourceLightInputs};
+use crate::slots::store_slot;
 use d3d9_types::D3DLIGHT9;
 use ff_lights::set_light_at;
 use ff_lights::set_light_enabled_at;
@@ -51,6 +53,10 @@ fn enable_light(s: FfState, index: u32, enabled: u32) -> Numbered
 pub extern "C" fn ff_state_set_light_at(s: &mut FfState, index: u32, light: &D3DLIGHT9) -> u32
     ensures { λ r. ⌜ (r, now (s .exit)) ≡ ffStateSetLightAt (now (s .entry)) index (now (light .entry)) ⌝ }
 {
+    if index < 8 {
+        store_slot(s, index, *light);
+        return 0;
+    }
     let c = set_light(*s, index, *light);
     *s = c.state;
     c.number
