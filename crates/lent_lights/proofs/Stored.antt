@@ -1,5 +1,5 @@
 -- A light stored in a slot of a lent state: what closing the borrow asks, and that it is what `setSlot` leaves. Assumes nothing.
-use mathlib.Core.Path.{_≡_, refl, sym, ap, _∙_, subst}
+use mathlib.Core.Path.{_≡_, refl, sym, ap, subst}
 use Prim.Native.Nat.{ℕ, _<_, _^_}
 use mathlib.Core.List.{List, [], _∷_}
 use lib.Bits.{bitOr}
@@ -17,7 +17,7 @@ use Rattle.ff_state.specs.declared.state.FfState.{FfState}
 use Rattle.ff_state.proofs.state.FfState as St
 use Rattle.ff_state.proofs.state.FfState.Laws as St′
 use Rattle.lent_state.proofs.Item.{vals, array-set, array-length}
-use Rattle.lent_state.proofs.Fields.{IsState, dirtier}
+use Rattle.lent_state.proofs.Fields.{IsState}
 use Rattle.lent_lights.specs.Masks.{masksWith}
 use Rattle.lent_lights.specs.declared.slots.Masks.{Masks}
 use Rattle.lent_lights.proofs.slots.Masks as Mk
