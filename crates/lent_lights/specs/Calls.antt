@@ -15,7 +15,7 @@ numbered c = record { number = lightNumber (c .answer); state = c .state }
 abbrev pub ffStateSetLightAt : FfState → ℕ → D3DLIGHT9 → ℕ × FfState
 ffStateSetLightAt s i l = (lightNumber (setLightAt s i l .answer), setLightAt s i l .state)
 
--- Document 01, 'State image': "any number but 0 enables"
+-- docs/INTERFACE.md: "any number but 0 enables"
 abbrev pub ffStateSetLightEnabledAt : FfState → ℕ → ℕ → ℕ × FfState
 ffStateSetLightEnabledAt s i on = (lightNumber (setLightEnabledAt s i (not (eqb on 0)) .answer), setLightEnabledAt s i (not (eqb on 0)) .state)
 
