@@ -1,5 +1,5 @@
 -- What a walk holds of its references, each under one name: a shut or an open borrow of a state, a mirror, a number. The names keep a walk's terms small; these laws alone look behind them. Assumes `Given`.
-use mathlib.Core.Path.{_≡_, refl, sym}
+use mathlib.Core.Path.{_≡_, refl}
 use Prim.Native.Nat.{ℕ, _<_, _^_}
 use mathlib.Core.List.{List, [], _∷_}
 use lib.Ieee.{Float}
@@ -10,9 +10,9 @@ use mir.Val.{Val, vint}
 use base.Logic.{SProp, ent, sep, id⊢}
 use base.Fml.{Lft, GName, Share, fat, flft, fobs, fauth, fbor, fobor}
 use prog.Wp.{Heap}
-use ghost.Atoms.{Atoms, sem}
+use ghost.Atoms.{Atoms}
 use contract.Monad.{fact}
-use types.Kit.{Given, ‵, raw, ⋆, _$_, _∵_, !, qed, move, drop, use1, rewrite, split, join, frame, updating, now as at-once, done}
+use types.Kit.{Given, ‵, ⋆, _$_, _∵_, !, qed, move, drop, use1, rewrite, frame, updating, now as at-once, done}
 use types.SemTy.{Body}
 use denote.Laws.{Is, shows}
 use denote.Memory.{mem, cellAt}

@@ -13,7 +13,7 @@ use Rattle.d3d9_types.specs.declared.material.D3DMATERIAL9.{D3DMATERIAL9}
 use Rattle.d3d9_types.specs.declared.matrix.D3DMATRIX.{D3DMATRIX}
 use Rattle.sections.specs.Sections.{sections, hasSection}
 use Rattle.sections.specs.declared.key.FfVsKey.{FfVsKey}
-use Rattle.sections.specs.declared.sections.Section.the-variants.{Wv, Proj, Material, Lights, Palette, Tt}
+use Rattle.sections.specs.declared.sections.Section.the-variants.{Wv, Proj, Material, Lights, Palette}
 use Rattle.ff_state.specs.Active.{activeLights, lightActiveMask}
 use Rattle.ff_state.specs.Dirty.{takeFfVsDirty}
 use Rattle.ff_state.specs.State.{noMatrix, withFfVsDirty, dirtyWord}

@@ -5,7 +5,6 @@ use native.Mathlib.Omega.{arith}
 use mathlib.Core.Path.{_≡_, refl, sym, ap, subst, _∙_}
 use mathlib.Core.List.{List}
 use lib.ListN.{length, take}
-use Rattle.codec.specs.Put.{put}
 use Rattle.codec.proofs.Put.{part-length, put-back}
 use Rattle.d3d9_types.specs.declared.light.D3DLIGHT9.{D3DLIGHT9}
 use Rattle.light_table.specs.Active.{listed}
@@ -13,7 +12,7 @@ use Rattle.light_table.specs.declared.active.ActiveLights.{ActiveLights}
 use Rattle.light_table.proofs.Compaction.{listed-len, listed-front}
 use Rattle.rows.specs.Rows.{floats}
 use Rattle.light_rows.specs.Light.{lightsRows}
-use Rattle.lent_refresh.specs.Parts.{activeParts, partLights}
+use Rattle.lent_refresh.specs.Parts.{activeParts}
 use Rattle.lent_refresh.proofs.Sizes.{lights-floats}
 use borrow.Author.Needs.{needs}
 use Rattle.lent_refresh.proofs.lights.put_lights.Statement.{statement}

@@ -11,7 +11,7 @@ use Rattle.refresh.specs.Written.{writtenSection}
 use Rattle.lent_refresh.proofs.Order.{palette-put, palette-not}
 use mathlib.Core.Path.{_≡_, refl, sym, ap, subst, _∙_}
 use Prim.Native.Nat.{ℕ, _<_, _^_}
-use mathlib.Core.Bool.{Bool, not}
+use mathlib.Core.Bool.{Bool}
 use mathlib.Core.List.{[], _∷_, List}
 use lib.Dec.{T}
 use lib.Ieee.{Float, binary32}
