@@ -16,6 +16,7 @@ use Rattle.d3d9_types.specs.declared.light.D3DLIGHT9.{D3DLIGHT9}
 use Rattle.words.specs.Bits.{hasBit}
 use Rattle.words.proofs.Words.{has-or}
 use Rattle.sections.specs.Sections.{sections, bitOf, bitPlace, hasSection, allBits}
+use Rattle.sections.proofs.Every.{same-sections}
 use Rattle.sections.specs.declared.sections.Section.{Section}
 use Rattle.sections.specs.declared.sections.Section.the-variants as Sections
 use Rattle.light_table.specs.Overflow.{usedCount}
@@ -43,15 +44,7 @@ use Rattle.agreement.proofs.Numbers.{number, Named, place, no-place, na
 use Rattle.agreement.proofs.Kept.{refused-alike}
 use Rattle.agreement.proofs.Refused.{refused-same}
 
--- ---- a word, by its six sections
-
-same-sections : (f g : Section → Bool) → map f sections ≡ map g sections → (σ : Section) → f σ ≡ g σ
-same-sections f g e Sections.Wv = ap (λ (bs : List Bool). getD bs 0 false) e
-same-sections f g e Sections.Proj = ap (λ (bs : List Bool). getD bs 1 false) e
-same-sections f g e Sections.Material = ap (λ (bs : List Bool). getD bs 2 false) e
-same-sections f g e Sections.Lights = ap (λ (bs : List Bool). getD bs 3 false) e
-same-sections f g e Sections.Palette = ap (λ (bs : List Bool). getD bs 4 false) e
-same-sections f g e Sections.Tt = ap (λ (bs : List Bool). getD bs 5 false) e
+-- ---- a word, by its sections
 
 -- a word to which bits were added has the sections that it had, and those of the bits
 added : (w d bits : ℕ) (g : Section → Bool) → d ≡ bitOr w bits → ((σ : Section) → hasSection bits σ ≡ g σ) → (σ : Section) → hasSection d σ ≡ (hasSection w σ || g σ)
@@ -136,12 +129,8 @@ enable-adds s i on =
 
 one-section : (τ σ : Section) → hasSection (bitOf τ) σ ≡ among (τ ∷ []) σ
 unfolding among hasBit
-one-section Sections.Wv = same-sections _ _ refl
-one-section Sections.Proj = same-sections _ _ refl
-one-section Sections.Material = same-sections _ _ refl
-one-section Sections.Lights = same-sections _ _ refl
-one-section Sections.Palette = same-sections _ _ refl
-one-section Sections.Tt = same-sections _ _ refl
+one-section τ =
+    same-sections _ _ (same-sections (λ τ. map (hasSection (bitOf τ)) sections) (λ τ. map (among (τ ∷ [])) sections) refl τ)
 
 light-marks : (s : FfState) (r : LightChanged) → Adds s r → lightNumber (r .answer) ≡ 0 → Marks s (r .state) (among (Sections.Lights ∷ []))
 light-marks s r adds z = added (dirtyWord s) (dirtyWord (r .state)) lightsBit (among (Sections.Lights ∷ [])) (adds z) (one-section Sections.Lights)

@@ -1,6 +1,6 @@
 -- A section that is not marked after a call has the inputs that it had before it (`unmarked-same`): a call that changes what a section is made from marks the section.
 -- Assumes nothing.
-use Prim.Native.Nat.{ℕ, zero, suc, _+_, _^_}
+use Prim.Native.Nat.{ℕ, zero, suc, _+_}
 use mathlib.Core.Path.{_≡_, refl, sym, _∙_}
 use mathlib.Core.Bool.{Bool, false, _&&_}
 use native.Mathlib.Omega.{arith}
@@ -227,12 +227,3 @@ unmarked-same s (setMaterial m) σ e = material-same s m σ e
 unmarked-same s (setLight i l) σ e = set-light-keeps s i l σ e
 unmarked-same s (enableLight i on) σ e = enable-light-keeps s i on σ e
 unmarked-same s (mark bits) σ e = mark-keeps s bits σ
-
--- a section's bit stands at its place
-pub bit-place : (σ : Section) → bitOf σ ≡ 2 ^ bitPlace σ
-bit-place Wv = refl
-bit-place Proj = refl
-bit-place Material = refl
-bit-place Lights = refl
-bit-place Palette = refl
-bit-place Tt = refl

@@ -1,12 +1,13 @@
 -- Sections written one after another: each that the bits name holds its packing at the end, since no other section lies where it does; every float outside of them stays.
 -- Assumes nothing.
-use Prim.Native.Nat.{ℕ, _+_, _*_, _<_}
+use Prim.Native.Nat.{ℕ, zero, suc, _+_, _*_, _<_}
+use native.Mathlib.Nat.{le-of-suc-le-suc, not-suc-le-zero}
 use native.Mathlib.Omega.{arith}
 use mathlib.Core.Path.{_≡_, refl, sym, ap, subst, _∙_}
 use mathlib.Core.Logic.{_⊎_, inl, inr}
-use mathlib.Core.Bool.{Bool, true, false, cond}
+use mathlib.Core.Bool.{Bool, true, false}
 use mathlib.Core.List.{List, [], _∷_}
-use lib.Dec.{eqb, ltb}
+use lib.Dec.{ltb}
 use lib.Ieee.{Float, nan}
 use lib.ListN.{length, getD}
 use borrow.Author.Tests.{ltb-true, ltb-false}
@@ -14,47 +15,31 @@ use Rattle.lemmas.proofs.Tests.{never}
 use Rattle.lemmas.proofs.Branch.{branch}
 use Rattle.codec.specs.Put.{put}
 use Rattle.codec.proofs.Put.{Outside, length-put}
-use Rattle.sections.specs.Sections.{sections, hasSection}
+use Rattle.sections.specs.Sections.{sections, bitPlace, hasSection, firstRow}
 use Rattle.sections.specs.declared.sections.Section.{Section}
-use Rattle.sections.specs.declared.sections.Section.the-variants.{Wv, Proj, Material, Lights, Palette, Tt}
+use Rattle.sections.specs.declared.sections.Section.the-variants.{Wv}
 use Rattle.ff_state.specs.declared.state.FfState.{FfState}
-use Rattle.sections.specs.Sections.{firstRow}
 use Rattle.sections.specs.declared.key.FfVsKey.{FfVsKey}
-use Rattle.sections.proofs.Tiles.{apart}
+use Rattle.sections.proofs.Every.{listed}
+use Rattle.sections.proofs.Tiles.{apart, same-first}
 use Rattle.packing.specs.Pack.{stateRows, stateCount}
 use Rattle.refresh.specs.Written.{firstFloat, writtenSection, written}
 use Rattle.refresh.proofs.Packed.{Ready, rows-length, fits}
 use Rattle.refresh.proofs.Parts.{Holds, put-holds, put-outside}
 use Rattle.packing.specs.Inputs.{inputsOf}
 
--- ---- sections by their first rows
-
-abbrev sectionAt : ℕ → Section
-sectionAt n = cond (eqb n 0) Wv (cond (eqb n 4) Proj (cond (eqb n 10) Material (cond (eqb n 15) Lights (cond (eqb n 95) Palette Tt))))
-
-at-first : (σ : Section) → sectionAt (firstRow σ) ≡ σ
-at-first Wv = refl
-at-first Proj = refl
-at-first Material = refl
-at-first Lights = refl
-at-first Palette = refl
-at-first Tt = refl
-
-pub same-first : (σ τ : Section) → firstRow σ ≡ firstRow τ → σ ≡ τ
-same-first σ τ e = sym (at-first σ) ∙ ap sectionAt e ∙ at-first τ
-
 -- one of a list
 abbrev pub In : Section → List Section → Type 0
 In σ [] = ⊥
 In σ (τ ∷ τs) = (σ ≡ τ) ⊎ In σ τs
 
+in-at : (σs : List Section) (i : ℕ) → i < length σs → In (getD σs i Wv) σs
+in-at [] i h = absurd (not-suc-le-zero h)
+in-at (σ ∷ σs) zero h = inl refl
+in-at (σ ∷ σs) (suc i) h = inr (in-at σs i (le-of-suc-le-suc h))
+
 pub every-in : (σ : Section) → In σ sections
-every-in Wv = inl refl
-every-in Proj = inr (inl refl)
-every-in Material = inr (inr (inl refl))
-every-in Lights = inr (inr (inr (inl refl)))
-every-in Palette = inr (inr (inr (inr (inl refl))))
-every-in Tt = inr (inr (inr (inr (inr (inl refl)))))
+every-in σ = subst (λ (τ : Section). In τ sections) (listed σ .0) (in-at sections (bitPlace σ) (listed σ .1))
 
 -- before, behind or the same
 three : {A : Type 0} (a b : ℕ) → (a < b → A) → (b < a → A) → (a ≡ b → A) → A

@@ -1,14 +1,14 @@
 -- What is computed of all the sections holds of each. Assumes nothing.
-use Prim.Native.Nat.{ℕ, zero, suc, _<_}
+use Prim.Native.Nat.{ℕ, zero, suc, _^_, _<_}
 use native.Mathlib.Nat.{le-of-suc-le-suc, not-suc-le-zero}
 use native.Mathlib.Omega.{arith}
-use mathlib.Core.Path.{_≡_, refl, subst}
+use mathlib.Core.Path.{_≡_, refl, sym, ap, subst, _∙_}
 use mathlib.Core.Bool.{Bool, true, _&&_}
-use mathlib.Core.List.{List, [], _∷_}
+use mathlib.Core.List.{List, [], _∷_, map}
 use lib.Dec.{T}
-use lib.ListN.{length, getD}
+use lib.ListN.{length, getD, drop}
 use lib.Ieee.Fits.{and-l, and-r}
-use Rattle.sections.specs.Sections.{sections, bitPlace}
+use Rattle.sections.specs.Sections.{sections, bitOf, bitPlace}
 use Rattle.sections.specs.declared.sections.Section.{Section}
 use Rattle.sections.specs.declared.sections.Section.the-variants.{Wv, Proj, Material, Lights, Palette, Tt}
 
@@ -23,7 +23,7 @@ at f (σ ∷ σs) all zero h = and-l (f σ) (every f σs) all
 at f (σ ∷ σs) all (suc i) h = at f σs (and-r (f σ) (every f σs) all) i (le-of-suc-le-suc h)
 
 -- the place of a section's bit is its place in the list
-listed : (σ : Section) → (getD sections (bitPlace σ) Wv ≡ σ) × (bitPlace σ < 6)
+pub listed : (σ : Section) → (getD sections (bitPlace σ) Wv ≡ σ) × (bitPlace σ < length sections)
 listed Wv = (refl, omega arith)
 listed Proj = (refl, omega arith)
 listed Material = (refl, omega arith)
@@ -33,3 +33,22 @@ listed Tt = (refl, omega arith)
 
 pub each : (f : Section → Bool) → T (every f sections) → (σ : Section) → T (f σ)
 each f all σ = subst (λ (τ : Section). T (f τ)) (listed σ .0) (at f sections all (bitPlace σ) (listed σ .1))
+
+-- two functions that are equal over the list are equal at each section
+module _ {A : Type 0} (f g : Section → A) where
+  equal-at : (σs : List Section) → map f σs ≡ map g σs → (i : ℕ) → i < length σs → f (getD σs i Wv) ≡ g (getD σs i Wv)
+  equal-at [] e i h = absurd (not-suc-le-zero h)
+  equal-at (σ ∷ σs) e zero h = ap (λ (xs : List A). getD xs 0 (f σ)) e
+  equal-at (σ ∷ σs) e (suc i) h = equal-at σs (ap (λ (xs : List A). drop 1 xs) e) i (le-of-suc-le-suc h)
+
+  pub same-sections : map f sections ≡ map g sections → (σ : Section) → f σ ≡ g σ
+  same-sections e σ = subst (λ (τ : Section). f τ ≡ g τ) (listed σ .0) (equal-at sections e (bitPlace σ) (listed σ .1))
+
+-- ---- by places
+
+pub same-place : (σ τ : Section) → bitPlace σ ≡ bitPlace τ → σ ≡ τ
+same-place σ τ e = sym (listed σ .0) ∙ ap (λ (i : ℕ). getD sections i Wv) e ∙ listed τ .0
+
+-- a section's bit stands at its place
+pub bit-place : (σ : Section) → bitOf σ ≡ 2 ^ bitPlace σ
+bit-place = same-sections bitOf (λ σ. 2 ^ bitPlace σ) refl

@@ -14,6 +14,7 @@ use Rattle.d3d9_types.specs.declared.matrix.D3DMATRIX.{D3DMATRIX}
 use Rattle.words.specs.Bits.{hasBit}
 use Rattle.sections.specs.Sections.{sections}
 use Rattle.ff_state.specs.State.{freshState}
+use Rattle.sections.proofs.Every.{same-sections}
 use Rattle.sections.specs.declared.sections.Section.{Section}
 use Rattle.sections.specs.declared.sections.Section.the-variants.{Wv, Proj, Material, Lights, Palette, Tt}
 use Rattle.rows.specs.Rows.{rowsOf}
@@ -67,12 +68,7 @@ keyRows Tt = 0
 
 rows-are : (a : AbstractState) (σ : Section) → rowsUnder key a σ ≡ keyRows σ
 unfolding abstractRows packedRows abstractInputs paletteMatrices worldViewRows projectionRows paletteRows materialRows lightsRows rowsOf
-rows-are a Wv = refl
-rows-are a Proj = refl
-rows-are a Material = refl
-rows-are a Lights = refl
-rows-are a Palette = refl
-rows-are a Tt = refl
+rows-are a = same-sections (rowsUnder key a) keyRows refl
 
 -- whatever the lights are, a mask of 0 is accepted
 accepts-key : (lit : Bool) (a : AbstractState) → refreshRefusal a (keyOf lit) true ≡ 0
@@ -169,12 +165,7 @@ not-hit Tt e = refl
 -- bit 2 is PROJ's
 marked-again : (a : AbstractState) (σ : Section) → (isRow 4 σ (keyRows σ) && not (marks a (mark 2) σ)) ≡ false
 unfolding isRow marks abstractRefusal marksSection hasBit
-marked-again a Wv = refl
-marked-again a Proj = refl
-marked-again a Material = refl
-marked-again a Lights = refl
-marked-again a Palette = refl
-marked-again a Tt = refl
+marked-again a = same-sections _ (λ σ. false) refl
 
 -- ---- the list
 

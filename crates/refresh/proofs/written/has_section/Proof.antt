@@ -6,7 +6,7 @@ use lib.Dec.{eqb}
 use lib.Pow.{pow-pos}
 use Rattle.words.specs.Bits.{hasBit}
 use Rattle.sections.specs.Sections.{bitPlace}
-use Rattle.ff_state.proofs.Frame.{bit-place}
+use Rattle.sections.proofs.Every.{bit-place}
 use borrow.Author.Needs.{needs}
 use Rattle.refresh.proofs.written.has_section.Statement.{statement}
 use Rattle.refresh.proofs.written.has_section.Tie as tie
