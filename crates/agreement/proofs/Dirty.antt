@@ -2,18 +2,19 @@
 use Prim.Native.Nat.{ℕ, _≤_}
 use native.Mathlib.Omega.{arith}
 use mathlib.Core.Path.{_≡_}
-use mathlib.Core.Bool.{true, false, cond}
+use mathlib.Core.Bool.{true, false}
 use lib.Dec.{leb}
 use lib.Bits.{bitOr, or-lt}
-use borrow.Author.Tests.{leb-true}
 use Rattle.lemmas.proofs.Branch.{branch}
 use Rattle.d3d9_model.specs.State.{AbstractState}
+use Rattle.d3d9_model.specs.Operations.{mark, abstractRefusal}
 use Rattle.ff_state.specs.State.{withFfVsDirty, dirtyWord}
 use Rattle.sections.specs.Sections.{allBits}
 use Rattle.ff_state.specs.Dirty.{dirtied, markFfVsDirty, markNumber, takeFfVsDirty}
 use Rattle.ff_state.specs.Valid.{Valid}
 use Rattle.ff_state.specs.declared.state.FfState.{FfState}
 use Rattle.ff_state.specs.declared.dirty.Marked.{Marked}
+use Rattle.ff_state.proofs.Marking.{by-mark}
 use Rattle.agreement.specs.Agrees.{Agrees, stateLights}
 
 dirty-kept : {s : FfState} (d : ℕ) → d ≤ allBits → Valid s → Valid (withFfVsDirty s d)
@@ -39,8 +40,7 @@ unfolding takeFfVsDirty
 taken-valid v = dirty-kept 0 (omega arith) v
 
 pub marked-valid : {s : FfState} (bits : ℕ) → Valid s → Valid (markFfVsDirty s bits .state)
-unfolding markFfVsDirty
-marked-valid bits v = branch (λ (r : Marked). Valid (r .state)) (leb bits allBits) _ _ (λ (t : leb bits allBits ≡ true). dirtied-valid bits (leb-true bits allBits t) v) (λ t. v)
+marked-valid {s} bits v = by-mark (λ r. Valid (r .state)) s bits (λ h. dirtied-valid bits h v) (λ a n. v)
 
 bits-agree : {s : FfState} {a : AbstractState} (d : ℕ) → Agrees s a → Agrees (withFfVsDirty s d) a
 unfolding stateLights
@@ -61,10 +61,9 @@ unfolding takeFfVsDirty
 taken-agrees g = bits-agree 0 g
 
 pub marked-agrees : {s : FfState} {a : AbstractState} (bits : ℕ) → Agrees s a → Agrees (markFfVsDirty s bits .state) a
-unfolding markFfVsDirty
-marked-agrees {a = a} bits g = branch (λ (r : Marked). Agrees (r .state) a) (leb bits allBits) _ _ (λ t. dirtied-agrees bits g) (λ t. g)
+marked-agrees {s} {a} bits g = by-mark (λ r. Agrees (r .state) a) s bits (λ h. dirtied-agrees bits g) (λ m n. g)
 
-pub mark-number : (s : FfState) (bits : ℕ) → markNumber (markFfVsDirty s bits .answer) ≡ cond (leb bits 63) 0 7
-unfolding markFfVsDirty markNumber
-mark-number s bits =
-    branch (λ (r : Marked). markNumber (r .answer) ≡ cond (leb bits 63) 0 7) (leb bits allBits) _ _ (λ (t : leb bits 63 ≡ true). rw t) (λ (t : leb bits 63 ≡ false). rw t)
+pub mark-number : (s : FfState) (a : AbstractState) (bits : ℕ) → markNumber (markFfVsDirty s bits .answer) ≡ abstractRefusal a (mark bits)
+unfolding markFfVsDirty markNumber abstractRefusal
+mark-number s a bits =
+    branch (λ (r : Marked). markNumber (r .answer) ≡ abstractRefusal a (mark bits)) (leb bits allBits) _ _ (λ (t : leb bits allBits ≡ true). rw t) (λ (t : leb bits allBits ≡ false). rw t)

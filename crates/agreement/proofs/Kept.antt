@@ -2,7 +2,7 @@
 use Prim.Native.Nat.{ℕ}
 use mathlib.Core.Path.{_≡_, refl}
 use mathlib.Core.Bool.{Bool, true, false, cond, not}
-use lib.Dec.{leb, eqb}
+use lib.Dec.{eqb}
 use Rattle.d3d9_model.specs.State.{AbstractState}
 use Rattle.d3d9_model.specs.Operations.{Operation, setTransform, multiplyTransform, setMaterial, setLight, enableLight, mark, full, abstractRefusal, abstractChange, abstractStep}
 use Rattle.ff_state.specs.Lights.{hasRoom}
@@ -41,7 +41,7 @@ refused-alike v g (multiplyTransform n m) = multiply-number v n m
 refused-alike v g (setMaterial m) = refl
 refused-alike {s} v g (setLight i l) = light-number v g i _ (set-answer s i l)
 refused-alike {s} v g (enableLight i on) = light-number v g i _ (enable-answer s i on)
-refused-alike {s} v g (mark bits) = mark-number s bits
+refused-alike {s} {a} v g (mark bits) = mark-number s a bits
 
 either-way : (t : Bool) (a : AbstractState) → cond t a a ≡ a
 either-way true a = refl
@@ -49,8 +49,8 @@ either-way false a = refl
 
 -- marking leaves the abstract state alone, refused or not
 mark-step : (a : AbstractState) (bits : ℕ) → abstractStep a (mark bits) ≡ a
-unfolding abstractStep abstractRefusal abstractChange
-mark-step a bits = either-way (eqb (cond (leb bits 63) 0 7) 0) a
+unfolding abstractStep abstractChange
+mark-step a bits = either-way (eqb (abstractRefusal a (mark bits)) 0) a
 
 pub agrees-kept : {s : FfState} {a : AbstractState} → Valid s → Agrees s a → (op : Operation) → OperationFits op → Agrees (operate s op .state) (abstractStep a op)
 unfolding operate

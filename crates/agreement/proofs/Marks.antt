@@ -4,10 +4,9 @@ use Prim.Native.Nat.{ℕ, zero, suc, _+_, _<_}
 use native.Mathlib.Omega.{arith}
 use mathlib.Core.Path.{_≡_, refl, ap, _∙_}
 use mathlib.Core.Bool.{Bool, true, false, _&&_, _||_}
-use mathlib.Core.List.{List, [], _∷_, map}
+use mathlib.Core.List.{[], _∷_, map}
 use lib.Bits.{bitOr}
-use lib.Dec.{eqb, eqb·suc-zero, ltb, leb}
-use lib.ListN.{getD}
+use lib.Dec.{eqb, eqb·suc-zero, ltb}
 use borrow.Author.Tests.{eqb-true, eqb-false, ne-eqb, le-leb, lt-leb}
 use Rattle.lemmas.proofs.Branch.{branch}
 use Rattle.d3d9_types.specs.Light.{defaultLight}
@@ -15,7 +14,7 @@ use Rattle.d3d9_types.specs.declared.matrix.D3DMATRIX.{D3DMATRIX}
 use Rattle.d3d9_types.specs.declared.light.D3DLIGHT9.{D3DLIGHT9}
 use Rattle.words.specs.Bits.{hasBit}
 use Rattle.words.proofs.Words.{has-or}
-use Rattle.sections.specs.Sections.{sections, bitOf, bitPlace, hasSection, allBits}
+use Rattle.sections.specs.Sections.{sections, bitOf, bitPlace, hasSection}
 use Rattle.sections.proofs.Every.{same-sections}
 use Rattle.sections.specs.declared.sections.Section.{Section}
 use Rattle.sections.specs.declared.sections.Section.the-variants as Sections
@@ -34,7 +33,6 @@ use Rattle.ff_state.specs.Transforms.{slotOf, InRange, placeSections, placeBits
 use Rattle.ff_state.specs.Transforms as Transforms
 use Rattle.ff_state.specs.Operate.{operate}
 use Rattle.ff_state.specs.Valid.{Valid}
-use Rattle.ff_state.specs.declared.dirty.Marked.{Marked}
 use Rattle.ff_state.specs.declared.lights.LightChanged.{LightChanged}
 use Rattle.ff_state.specs.declared.state.FfState.{FfState}
 use Rattle.ff_state.specs.declared.transforms.Place.{Place}
@@ -43,6 +41,7 @@ use Rattle.agreement.specs.Agrees.{Agrees}
 use Rattle.agreement.proofs.Numbers.{number, Named, place, no-place, named}
 use Rattle.agreement.proofs.Kept.{refused-alike}
 use Rattle.agreement.proofs.Refused.{refused-same}
+use Rattle.ff_state.proofs.Marking.{by-mark}
 
 -- ---- a word, by its sections
 
@@ -138,9 +137,8 @@ light-marks s r adds z = added (dirtyWord s) (dirtyWord (r .state)) lightsBit (a
 -- ---- every operation
 
 mark-adds : (s : FfState) (bits : ℕ) → markNumber (markFfVsDirty s bits .answer) ≡ 0 → dirtyWord (markFfVsDirty s bits .state) ≡ bitOr (dirtyWord s) bits
-unfolding markFfVsDirty markNumber dirtied
-mark-adds s bits =
-    branch (λ (r : Marked). markNumber (r .answer) ≡ 0 → dirtyWord (r .state) ≡ bitOr (dirtyWord s) bits) (leb bits allBits) _ _ (λ t e. refl) (λ t e. absurd (omega arith))
+unfolding dirtied
+mark-adds s bits = by-mark (λ r. markNumber (r .answer) ≡ 0 → dirtyWord (r .state) ≡ bitOr (dirtyWord s) bits) s bits (λ h e. refl) (λ a n e. absurd (n e))
 
 accepted-marks : (s : FfState) (op : Operation) → operate s op .number ≡ 0 → Marks s (operate s op .state) (marksSection op)
 unfolding operate marksSection Transforms.setTransform Transforms.multiplyTransform Materials.setMaterial dirtied

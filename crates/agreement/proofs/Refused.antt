@@ -3,18 +3,17 @@
 use Prim.Native.Nat.{ℕ}
 use mathlib.Core.Path.{_≡_, refl, ap, _∙_}
 use mathlib.Core.Bool.{Bool, true, false, cond}
-use lib.Dec.{leb}
 use Rattle.d3d9_types.specs.declared.matrix.D3DMATRIX.{D3DMATRIX}
 use Rattle.d3d9_model.specs.Operations.{Operation, setTransform, multiplyTransform, setMaterial, setLight, enableLight, mark}
 use Rattle.ff_state.specs.Dirty.{markFfVsDirty, markNumber}
 use Rattle.ff_state.specs.Lights.{hasRoom, setLightAt, setLightEnabledAt, lightNumber}
-use Rattle.sections.specs.Sections.{allBits}
 use Rattle.ff_state.specs.Transforms as Transforms
 use Rattle.ff_state.specs.declared.lights.LightChanged.{LightChanged}
 use Rattle.ff_state.specs.declared.state.FfState.{FfState}
 use Rattle.ff_state.specs.declared.transforms.Place.{Place}
 use Rattle.ff_state.specs.declared.transforms.Slot.{Slot}
 use Rattle.ff_state.specs.declared.transforms.Slot.the-variants.{At, Unknown}
+use Rattle.ff_state.proofs.Marking.{by-mark}
 use Rattle.ff_state.proofs.Room.{roomRefusal, set-answer, set-refused, enable-answer, enable-refused}
 use Rattle.ff_state.specs.Operate.{operate}
 
@@ -35,12 +34,8 @@ light-same s i r answer unchanged h = by-cases (hasRoom s i) refl
     by-cases false e = ap (λ (x : LightChanged). x .state) (unchanged e)
 
 mark-same : (s : FfState) (bits : ℕ) → Not0 (markNumber (markFfVsDirty s bits .answer)) → markFfVsDirty s bits .state ≡ s
-unfolding markFfVsDirty markNumber
-mark-same s bits h = by-cases (leb bits allBits) refl
-  where
-    by-cases : (t : Bool) → leb bits allBits ≡ t → markFfVsDirty s bits .state ≡ s
-    by-cases true e = absurd (h (rw e))
-    by-cases false e = rw e
+unfolding markNumber
+mark-same s bits = by-mark (λ r. Not0 (markNumber (r .answer)) → r .state ≡ s) s bits (λ h n. absurd (n refl)) (λ a f n. refl)
 
 pub refused-same : (s : FfState) (op : Operation) → (operate s op .number ≡ 0 → ⊥) → operate s op .state ≡ s
 unfolding operate Transforms.setTransform Transforms.multiplyTransform

@@ -4,7 +4,7 @@ use Prim.Native.Nat.{ℕ, zero, suc, _+_}
 use mathlib.Core.Path.{_≡_, refl, sym, _∙_}
 use mathlib.Core.Bool.{Bool, false, _&&_}
 use native.Mathlib.Omega.{arith}
-use lib.Dec.{eqb·suc-zero, leb, ltb}
+use lib.Dec.{eqb·suc-zero, ltb}
 use lib.ListN.{set}
 use lib.Seq.{getD-set-other}
 use Rattle.lemmas.proofs.Tests.{never, neither}
@@ -16,7 +16,7 @@ use Rattle.d3d9_types.specs.declared.material.D3DMATERIAL9.{D3DMATERIAL9}
 use Rattle.d3d9_types.specs.declared.light.D3DLIGHT9.{D3DLIGHT9}
 use Rattle.ff_state.specs.Active.{activeLights, lightActiveMask}
 use Rattle.light_table.specs.Overflow.{usedCount, insertedAt}
-use Rattle.sections.specs.Sections.{bitOf, bitPlace, hasSection, allBits}
+use Rattle.sections.specs.Sections.{bitOf, bitPlace, hasSection}
 use Rattle.words.specs.Bits.{hasBit, withBit}
 use Rattle.ff_state.specs.State.{noMatrix, withMaterial, withLightEnabled, withOverflowLights, withOverflowCount, dirtyWord}
 use Rattle.light_table.specs.Entry.{lightEntry}
@@ -35,12 +35,12 @@ use Rattle.ff_state.specs.declared.state.FfState.{FfState}
 use Rattle.light_table.specs.declared.entry.OverflowLight.{OverflowLight}
 use Rattle.light_table.specs.declared.overflow.Found.{Found}
 use Rattle.ff_state.specs.declared.lights.LightChanged.{LightChanged}
-use Rattle.ff_state.specs.declared.dirty.Marked.{Marked}
 use Rattle.ff_state.specs.declared.transforms.Place.{Place}
 use Rattle.ff_state.specs.declared.transforms.Place.the-variants as Places
 use Rattle.ff_state.specs.declared.transforms.Slot.{Slot}
 use Rattle.ff_state.specs.declared.transforms.Slot.the-variants.{At, Unknown}
 use Rattle.words.proofs.Words.{has-or}
+use Rattle.ff_state.proofs.Marking.{by-mark}
 
 -- a bit that is not set after marking was not among those marked
 unmarked : (s : FfState) (bits : ℕ) (σ : Section) → hasSection (dirtyWord (dirtied s bits)) σ ≡ false → hasSection bits σ ≡ false
@@ -204,9 +204,7 @@ enable-light-keeps s i on σ =
 -- ---- marking and taking
 
 mark-keeps : (s : FfState) (bits : ℕ) (σ : Section) → sameInputs σ s (markFfVsDirty s bits .state)
-unfolding markFfVsDirty
-mark-keeps s bits σ =
-    branch (λ (r : Marked). sameInputs σ s (r .state)) (leb bits allBits) _ _ (λ e. marked-same σ s s bits (same σ s)) (λ e. same σ s)
+mark-keeps s bits σ = by-mark (λ r. sameInputs σ s (r .state)) s bits (λ h. marked-same σ s s bits (same σ s)) (λ a n. same σ s)
 
 pub taken-same : (s : FfState) (σ : Section) → sameInputs σ s (takeFfVsDirty s .state)
 unfolding takeFfVsDirty activeLights lightActiveMask
