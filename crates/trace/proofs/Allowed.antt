@@ -182,8 +182,12 @@ first-marked m k = record { shape = λ j q. not-some q; image = λ σ f. refl }
 pub again-marked : (t : Track) (j k : FfVsKey) → t .lastKey ≡ some j → SameShape j k → ((σ : Section) → OfFive σ → t .needsMarking σ ≡ false) → Marked t k
 again-marked t j k last same ends = record { shape = λ i q n. absurd (n (subst (λ (x : FfVsKey). SameShape x k) (some-is (sym last ∙ q)) same)); image = ends }
 
+-- the bits of the five
+abbrev pub fiveBits : ℕ
+fiveBits = 31
+
 -- and whatever needed marking, none after the five are marked, by value or by the host
-pub marks-five : (a : AbstractState) (σ : Section) → OfFive σ → marks a (mark 31) σ ≡ true
+pub marks-five : (a : AbstractState) (σ : Section) → OfFive σ → marks a (mark fiveBits) σ ≡ true
 unfolding marks abstractRefusal marksSection hasBit
 marks-five a Wv f = refl
 marks-five a Proj f = refl
@@ -193,7 +197,7 @@ marks-five a Palette f = refl
 marks-five a Tt f = absurd f
 
 module _ (R : Refresher) (w : World) (k : FfVsKey) where
-  five-marked : Marked (trackMarked (marks (w .abstract) (mark 31)) (w .track)) k
+  five-marked : Marked (trackMarked (marks (w .abstract) (mark fiveBits)) (w .track)) k
   unfolding trackMarked
   five-marked =
       record {
@@ -201,11 +205,11 @@ module _ (R : Refresher) (w : World) (k : FfVsKey) where
         image = λ σ f. rw (marks-five (w .abstract) σ f) (and-false (w .track .needsMarking σ));
       }
 
-  pub own-marked : Marked (step R (own (mark 31)) w .track) k
+  pub own-marked : Marked (step R (own (mark fiveBits)) w .track) k
   unfolding step standing operated
   own-marked = five-marked
 
-  pub host-marked : Marked (step R (host (operates (mark 31))) w .track) k
+  pub host-marked : Marked (step R (host (operates (mark fiveBits))) w .track) k
   unfolding step hostStep standing operationOf isWhole said operatedIf operated
   host-marked = five-marked
 

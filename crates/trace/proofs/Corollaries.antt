@@ -23,7 +23,7 @@ use Rattle.trace.specs.Count.{countBelow, differing}
 use Rattle.trace.specs.World.{World, start, wrongRows}
 use Rattle.trace.specs.Step.{acceptedKey, ours, step, run}
 use Rattle.trace.specs.Claim.{Admissible, OfFive}
-use Rattle.trace.proofs.Allowed.{marks-five}
+use Rattle.trace.proofs.Allowed.{fiveBits, marks-five}
 use Rattle.trace.proofs.Always.{always-right}
 use Rattle.trace.proofs.Exempt.{Hits, only-hit, none-first, marking-ends, host-marking-ends}
 
@@ -100,12 +100,12 @@ tt-right w k = refl
 
 -- a marking of the five sections, by value or by the host
 abbrev pub MarksFive : Call → Type 0
-MarksFive c = (c ≡ own (mark 31)) ⊎ (c ≡ host (operates (mark 31)))
+MarksFive c = (c ≡ own (mark fiveBits)) ⊎ (c ≡ host (operates (mark fiveBits)))
 
 marking-clears : (c : Call) → MarksFive c → (w : World) (σ : Section) → OfFive σ → step ours c w .track .exempt σ ≡ false
 unfolding operationOf isWhole said
-marking-clears c (inl e) w σ f = rw e (marking-ends ours σ (mark 31) w (marks-five (w .abstract) σ f))
-marking-clears c (inr e) w σ f = rw e (host-marking-ends ours σ (mark 31) (mark 31) w refl (marks-five (w .abstract) σ f))
+marking-clears c (inl e) w σ f = rw e (marking-ends ours σ (mark fiveBits) w (marks-five (w .abstract) σ f))
+marking-clears c (inr e) w σ f = rw e (host-marking-ends ours σ (mark fiveBits) (mark fiveBits) w refl (marks-five (w .abstract) σ f))
 
 -- "a player that loses its rows must recover without a restart": after any admissible calls, a marking and an accepted refresh
 module _ (m : List Float) (long : length m ≡ 4460) (calls : List Call) (marking c : Call) (k : FfVsKey) (five : MarksFive marking) where

@@ -25,6 +25,7 @@ use Rattle.ff_state.specs.Dirty.{dirtied, takeFfVsDirty}
 use Rattle.ff_state.specs.State.{freshState, dirtyWord}
 use Rattle.ff_state.specs.Transforms.{slotOf, placeSections, placed, changeAt}
 use Rattle.ff_state.specs.Transforms as Transforms
+use Rattle.sections.specs.Sections.{allBits}
 use Rattle.sections.specs.declared.sections.Section.the-variants.{Proj}
 use Rattle.ff_state.specs.declared.state.FfState.{FfState}
 use Rattle.rows.specs.Rows.{floats, rowsOf}
@@ -139,7 +140,7 @@ host-writes-nothing-refuted claim =
 -- ---- it is right while all is dirty, and later only reports bits
 
 abbrev later : FfState → FfVsKey → List Float → RefreshOutcome
-later s k m = cond (eqb (dirtyWord s) 63) (refreshMirror s k m) (untouched s k m)
+later s k m = cond (eqb (dirtyWord s) allBits) (refreshMirror s k m) (untouched s k m)
 
 abbrev rightFirst : Refresher
 rightFirst = record { byValue = later; byHost = ffRefresh }
@@ -202,7 +203,7 @@ turned-fits =
     }
 
 -- it makes PROJ dirty and no other section
-only-projection : eqb (dirtyWord (operate (takeFfVsDirty freshState .state) turning .state)) 63 ≡ false
+only-projection : eqb (dirtyWord (operate (takeFfVsDirty freshState .state) turning .state)) allBits ≡ false
 unfolding operate Transforms.setTransform changeAt slotOf placed placeSections dirtied takeFfVsDirty freshState
 only-projection = refl
 
@@ -279,11 +280,11 @@ module _ (m : List Float) (long : length m ≡ 4460) where
       ap asState (refresh-stored ours (start m) key (theMirror m))
       ∙ ap (λ (o : RefreshOutcome). o .result .state) (Laws.accepted-is freshState key m (omega arith) (fresh-valid .palette-length) first-answer)
 
-  second-dirty : eqb (dirtyWord (asState (second .stored))) 63 ≡ false
+  second-dirty : eqb (dirtyWord (asState (second .stored))) allBits ≡ false
   unfolding asState
   second-dirty =
-      ap (λ (h : Stored). eqb (dirtyWord (asState h)) 63) (own-stored rightFirst first turning)
-      ∙ ap (λ (s : FfState). eqb (dirtyWord (operate s turning .state)) 63) first-state
+      ap (λ (h : Stored). eqb (dirtyWord (asState h)) allBits) (own-stored rightFirst first turning)
+      ∙ ap (λ (s : FfState). eqb (dirtyWord (operate s turning .state)) allBits) first-state
       ∙ only-projection
 
   last-accepted : acceptedKey second lastCall ≡ some key
