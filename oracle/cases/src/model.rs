@@ -25,6 +25,9 @@ pub mod refusal {
     pub const UNKNOWN_BITS: u32 = 7;
     pub const TRANSFORMED: u32 = 8;
     pub const NO_IMAGE: u32 = 9;
+
+    /// How many statuses a call can have: 0 and the numbers up to the last.
+    pub const STATUSES: usize = NO_IMAGE as usize + 1;
 }
 
 /// Document 01's six bits and the Rust's, by name.

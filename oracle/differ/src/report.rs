@@ -3,6 +3,8 @@
 use std::fmt::Write;
 use std::time::{Duration, Instant};
 
+use cases::model::refusal::STATUSES;
+
 /// What was found unlike, ready to print.
 pub struct Difference {
     pub call: &'static str,
@@ -16,7 +18,7 @@ struct Tally {
     call: &'static str,
     inputs: u64,
     /// By refusal number; 0 counts the accepted calls.
-    statuses: [u64; 10],
+    statuses: [u64; STATUSES],
 }
 
 pub struct Run {
@@ -83,7 +85,7 @@ impl Run {
 
     /// The table by call and by refusal number.
     pub fn summary(&self) -> String {
-        let numbers: Vec<usize> = (1..10)
+        let numbers: Vec<usize> = (1..STATUSES)
             .filter(|&n| self.tallies.iter().any(|tally| tally.statuses[n] != 0))
             .collect();
         let mut text = format!("{:<26}{:>12}{:>12}", "call", "inputs", "accepted");

@@ -3,6 +3,7 @@
 
 use cases::call::{NAMES, Name};
 use cases::image::REASONS;
+use cases::model::refusal::STATUSES;
 use cases::model::{Answer, Output};
 use cases::section::{FIVE, FIVE_BITS};
 use cases::world::Judged;
@@ -11,7 +12,7 @@ use crate::report::{Difference, Outcome, Run};
 
 pub struct Tally {
     /// Calls by name and by status.
-    statuses: [[u64; 10]; NAMES.len()],
+    statuses: [[u64; STATUSES]; NAMES.len()],
     /// By reason for 9, where it stood alone.
     alone: [u64; REASONS.len()],
     /// Images read in that were not the running one, and overwritings of the mirror.
@@ -27,7 +28,7 @@ pub struct Tally {
 impl Default for Tally {
     fn default() -> Self {
         Self {
-            statuses: [[0; 10]; NAMES.len()],
+            statuses: [[0; STATUSES]; NAMES.len()],
             alone: [0; REASONS.len()],
             read_in: 0,
             overwritten: 0,
@@ -75,7 +76,7 @@ impl Tally {
     /// Puts the counts into the run's summary.
     pub fn tell(&self, run: &mut Run) {
         let made = NAMES.iter().zip(self.statuses);
-        for (name, statuses) in made.filter(|(_, statuses)| *statuses != [0; 10]) {
+        for (name, statuses) in made.filter(|(_, statuses)| *statuses != [0; STATUSES]) {
             for (status, count) in statuses.into_iter().enumerate() {
                 run.count(name.form().c_name, status as u32, count);
             }
