@@ -245,6 +245,58 @@ uint32_t ff_fill_lights_section(const uint8_t *image, size_t image_len, FF_KEY, 
  * right again from the first accepted refresh after it is marked. */
 uint32_t ff_refresh(uint8_t *image, size_t image_len, FF_KEY, uint8_t *mirror, size_t mirror_len, uint32_t *out);
 
+/* A state in memory */
+
+/* For a player that makes many calls in a frame: the same state as an image, held where the caller puts it and changed in
+ * place. Its bytes are the library's own; ff_state_fresh or ff_state_read_image makes them a state, and any other call wants
+ * one. It may be copied as a whole. What crosses beside it are floats of the machine, aligned as floats: a matrix is 16 of
+ * them, a material 17, in the order that FF_MATRIX_BYTES and FF_MATERIAL_BYTES tell. A call answers, dirties and refuses
+ * as its fellow over an image does, but for what cannot be: there is no image to be refused, and no item of another length.
+ * These calls stand in liblent_state.a, liblent_lights.a, liblent_images.a and liblent_refresh.a. */
+struct ff_state {
+    uint32_t words[6053];
+};
+
+#if defined(__cplusplus) && __cplusplus >= 201103L
+static_assert(sizeof(struct ff_state) == 24212, "a state has 24,212 bytes");
+#elif defined(__STDC_VERSION__) && __STDC_VERSION__ >= 201112L
+_Static_assert(sizeof(struct ff_state) == 24212, "a state has 24,212 bytes");
+#endif
+
+struct ff_light {
+    uint32_t type;
+    float diffuse[4], specular[4], ambient[4], position[3], direction[3], range, falloff, attenuation[3], theta, phi;
+};
+
+/* The fresh state, as ff_image_fresh tells it. What the memory held before does not matter. */
+void ff_state_fresh(struct ff_state *s);
+
+/* From an image, and to one. Refuses 9; refuses 4. */
+uint32_t ff_state_read_image(struct ff_state *s, const uint8_t *image, size_t image_len);
+uint32_t ff_state_write_image(const struct ff_state *s, uint8_t *image, size_t image_len);
+
+/* Refuse 1. */
+uint32_t ff_state_set_transform(struct ff_state *s, uint32_t state, const float *matrix);
+uint32_t ff_state_multiply_transform(struct ff_state *s, uint32_t state, const float *matrix);
+
+/* Refuses nothing. */
+uint32_t ff_state_set_material(struct ff_state *s, const float *material);
+
+/* Refuse 3. */
+uint32_t ff_state_set_light_at(struct ff_state *s, uint32_t index, const struct ff_light *light);
+uint32_t ff_state_set_light_enabled_at(struct ff_state *s, uint32_t index, uint32_t enabled);
+
+/* What a key is made from. Refuses nothing. */
+uint32_t ff_state_vs_source_light_inputs(const struct ff_state *s, uint32_t *out);
+
+/* Refuses 7; refuses nothing. */
+uint32_t ff_state_mark_ff_vs_dirty(struct ff_state *s, uint32_t bits);
+uint32_t ff_state_take_ff_vs_dirty(struct ff_state *s, uint32_t *out);
+
+/* As ff_refresh, into a mirror of 4 x FF_ROWS floats. A row that is not written keeps its floats, bit by bit; which
+ * of a NaN's patterns one has that is written is left free. Refuses 4, 8, 5. */
+uint32_t ff_state_refresh(struct ff_state *s, FF_KEY, float *mirror, size_t mirror_len, uint32_t *out);
+
 /* Arithmetic, without an image */
 
 /* a x b, each sum of products from -0.0 left to right, nothing fused. Refuses 4. */

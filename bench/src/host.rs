@@ -1,11 +1,11 @@
 //! The host's calls on an image, each beside a plain copy of as many bytes in turn, and beside the same call on a
-//! state by value.
+//! state in memory.
 
 use std::hint::black_box;
 
 use crate::measure::{alone, alternating};
+use crate::raw::{self, FfLight, FfState};
 use crate::scene::IMAGE;
-use crate::{ours, raw};
 
 const MATRIX: usize = 64;
 const MATERIAL: usize = 68;
@@ -14,11 +14,6 @@ const MIRROR: usize = 17_840;
 
 /// The most that a call that only reads may take, in copies.
 const READING: f64 = 15.0;
-
-/// Turns of a loop on a state by value: few where a turn copies the state, more where it copies less, so that
-/// making the state counts for little.
-const COPIES: u32 = 256;
-const READS: u32 = 16_384;
 
 /// The transform that is set, and lights in a slot and in the table.
 const WORLD: u32 = 256;
@@ -40,7 +35,7 @@ fn image(lights: u32) -> Box<[u8; IMAGE]> {
 
 pub fn table() {
     println!(
-        "| host's call | lights from index 8 on | ns | copy, ns | copies | bound | by value, ns |"
+        "| host's call | lights from index 8 on | ns | copy, ns | copies | bound | in memory, ns |"
     );
     println!("|---|---:|---:|---:|---:|---:|---:|");
     for lights in [0, 56] {
@@ -61,19 +56,27 @@ fn calls(lights: u32) {
     let n: *mut u32 = &mut number;
     let overflow = if lights == 0 { SLOT } else { OVERFLOW };
 
-    let set_transform = by_value(COPIES, |n| ours::set_transform(n, black_box(1.0)));
-    let set_light = by_value(COPIES, |n| {
-        ours::set_light_at(n, black_box(overflow), black_box(1.0))
-    });
-    let enable = by_value(COPIES, |n| {
-        ours::set_light_enabled_at(n, black_box(overflow))
-    });
-    let inputs = by_value(READS, |n| {
-        ours::vs_source_light_inputs(n, black_box(overflow))
-    });
+    let mut state = Box::new(FfState::ZEROS);
+    let s: *mut FfState = &mut *state;
+    // SAFETY: as in `image`; the state, the items and the number outlive each call.
+    assert_eq!(
+        unsafe { raw::ff_state_read_image(s, i, IMAGE) },
+        0,
+        "the image is refused"
+    );
+    let floats = [0f32; 17];
+    let (f, spot) = (
+        floats.as_ptr(),
+        FfLight {
+            type_: 2,
+            floats: [0.0; 25],
+        },
+    );
+    let mut numbers = [0f32; MIRROR / 4];
+    let to = numbers.as_mut_ptr();
 
     let read = Some(READING);
-    // SAFETY: as in `image`, for every call below.
+    // SAFETY: as above, for every call below.
     unsafe {
         row("ff_image_check", lights, read, None, || {
             raw::ff_image_check(i, IMAGE)
@@ -84,46 +87,79 @@ fn calls(lights: u32) {
         row("ff_transform", lights, read, None, || {
             raw::ff_transform(i, IMAGE, WORLD, o, MATRIX)
         });
-        row("ff_vs_source_light_inputs", lights, read, inputs, || {
+        let memory = in_memory(|| raw::ff_state_vs_source_light_inputs(s, n));
+        row("ff_vs_source_light_inputs", lights, read, memory, || {
             raw::ff_vs_source_light_inputs(i, IMAGE, n)
         });
-        row("ff_set_transform", lights, None, set_transform, || {
+        let memory = in_memory(|| raw::ff_state_set_transform(s, WORLD, f));
+        row("ff_set_transform", lights, None, memory, || {
             raw::ff_set_transform(i, IMAGE, WORLD, m, MATRIX)
         });
-        row("ff_set_material", lights, None, None, || {
+        let memory = in_memory(|| raw::ff_state_multiply_transform(s, WORLD, f));
+        row("ff_multiply_transform", lights, None, memory, || {
+            raw::ff_multiply_transform(i, IMAGE, WORLD, m, MATRIX)
+        });
+        let memory = in_memory(|| raw::ff_state_set_material(s, f));
+        row("ff_set_material", lights, None, memory, || {
             raw::ff_set_material(i, IMAGE, material.as_ptr(), MATERIAL)
         });
-        row("ff_set_light_at", lights, None, set_light, || {
+        let memory = in_memory(|| raw::ff_state_set_light_at(s, overflow, &spot));
+        row("ff_set_light_at", lights, None, memory, || {
             raw::ff_set_light_at(i, IMAGE, overflow, l, LIGHT)
         });
-        row("ff_set_light_enabled_at", lights, None, enable, || {
+        let memory = in_memory(|| raw::ff_state_set_light_enabled_at(s, overflow, 1));
+        row("ff_set_light_enabled_at", lights, None, memory, || {
             raw::ff_set_light_enabled_at(i, IMAGE, overflow, 1)
         });
-        row("ff_mark_ff_vs_dirty", lights, None, None, || {
+        let memory = in_memory(|| raw::ff_state_mark_ff_vs_dirty(s, 1));
+        row("ff_mark_ff_vs_dirty", lights, None, memory, || {
             raw::ff_mark_ff_vs_dirty(i, IMAGE, 1)
         });
-        row("ff_take_ff_vs_dirty", lights, None, None, || {
+        let memory = in_memory(|| raw::ff_state_take_ff_vs_dirty(s, n));
+        row("ff_take_ff_vs_dirty", lights, None, memory, || {
             raw::ff_take_ff_vs_dirty(i, IMAGE, n)
         });
         // Nothing is dirty, as the bits were just taken.
-        row("ff_refresh", lights, None, None, || {
+        let memory = in_memory(|| raw::ff_state_refresh(s, 0, 0, 0, 0, 0, 0, 0, to, MIRROR / 4, n));
+        row("ff_refresh", lights, None, memory, || {
             raw::ff_refresh(i, IMAGE, 0, 0, 0, 0, 0, 0, 0, mirror, MIRROR, n)
         });
-        row("ff_image_fresh", lights, None, None, || {
-            raw::ff_image_fresh(i, IMAGE)
-        });
+        let mut image = Box::new([0; IMAGE]);
+        let to = image.as_mut_ptr();
+        let memory = in_memory(|| raw::ff_state_read_image(s, i, IMAGE));
+        row(
+            "ff_image_check and ff_state_read_image",
+            lights,
+            None,
+            memory,
+            || raw::ff_image_check(i, IMAGE),
+        );
+        let memory = in_memory(|| raw::ff_state_write_image(s, to, IMAGE));
+        row(
+            "ff_image_fresh and ff_state_write_image",
+            lights,
+            None,
+            memory,
+            || raw::ff_image_fresh(i, IMAGE),
+        );
     }
 }
 
-/// A call of a loop on a state by value, in nanoseconds.
-fn by_value<T>(turns: u32, calls: impl Fn(u32) -> T) -> Option<f64> {
-    let time = alone(|| {
-        black_box(calls(black_box(turns)));
-    });
-    Some(time / f64::from(turns))
+/// A call on a state in memory, in nanoseconds.
+fn in_memory(call: impl Fn() -> u32) -> Option<f64> {
+    assert_eq!(call(), 0, "a call in memory is refused");
+    Some(alone(|| {
+        black_box(call());
+    }))
 }
 
-fn row(name: &str, lights: u32, bound: Option<f64>, by_value: Option<f64>, call: impl Fn() -> u32) {
+fn row(
+    name: &str,
+    lights: u32,
+    bound: Option<f64>,
+    in_memory: Option<f64>,
+    call: impl Fn() -> u32,
+) {
     assert_eq!(call(), 0, "{name} is refused");
     let from = [1u8; IMAGE];
     let mut to = [0u8; IMAGE];
@@ -140,9 +176,9 @@ fn row(name: &str, lights: u32, bound: Option<f64>, by_value: Option<f64>, call:
         Some(most) => format!("{most}, missed"),
         None => String::new(),
     };
-    let by_value = by_value.map_or(String::new(), |time| format!("{time:.0}"));
+    let in_memory = in_memory.map_or(String::new(), |time| format!("{time:.1}"));
     println!(
-        "| `{name}` | {lights} | {:.0} | {:.0} | {copies:.1} | {bound} | {by_value} |",
+        "| `{name}` | {lights} | {:.0} | {:.0} | {copies:.1} | {bound} | {in_memory} |",
         times.ours, times.theirs
     );
 }

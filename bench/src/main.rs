@@ -3,6 +3,7 @@
 mod host;
 mod inputs;
 mod measure;
+mod memory;
 mod ours;
 mod packing;
 mod refresh;
@@ -25,8 +26,7 @@ const FLOATS: usize = 2048;
 const MATRICES: usize = 128;
 
 /// Turns of a loop on one state: enough that making it counts for little, and so few that a sample is
-/// seldom interrupted. A turn of ours copies the state, or the lists of lights, or neither.
-const COPIES: u32 = 256;
+/// seldom interrupted. A turn of ours copies the lists of lights, or nothing.
 const LISTS: u32 = 4096;
 const PLAIN: u32 = 65_536;
 
@@ -45,6 +45,14 @@ fn main() {
             head();
             fills();
             refreshes();
+        }
+        Some("memory") => {
+            head();
+            in_memory();
+        }
+        Some("growth") => {
+            let svg = std::env::args().nth(2).unwrap_or("growth.svg".to_string());
+            memory::growth(&svg).expect("the drawing can be written");
         }
         _ => {
             beside_the_rust();
@@ -89,30 +97,8 @@ fn beside_the_rust() {
     on_state();
 }
 
-/// The calls on the state, which ours take and return by value.
+/// The calls on the state: by value, over an image and in memory.
 fn on_state() {
-    let times = on_calls(
-        COPIES,
-        |n| ours::set_transform(n, black_box(1.0)),
-        |n| theirs::set_transform(n, black_box(1.0)),
-    );
-    row("set_transform", "palette", &times, None);
-    for (index, shape) in [(SLOT, "a slot"), (OVERFLOW, "an overflow light")] {
-        let times = on_calls(
-            COPIES,
-            |n| ours::set_light_at(n, black_box(index), black_box(1.0)),
-            |n| theirs::set_light_at(n, black_box(index), black_box(1.0)),
-        );
-        row("set_light_at", shape, &times, None);
-    }
-    for (index, shape) in [(SLOT, "a slot"), (OVERFLOW, "an overflow light")] {
-        let times = on_calls(
-            COPIES,
-            |n| ours::set_light_enabled_at(n, black_box(index)),
-            |n| theirs::set_light_enabled_at(n, black_box(index)),
-        );
-        row("set_light_enabled_at", shape, &times, None);
-    }
     for (index, turns, shape) in [
         (SLOT, PLAIN, "slots alone"),
         (OVERFLOW, LISTS, "an overflow light"),
@@ -126,11 +112,18 @@ fn on_state() {
     }
     fills();
     refreshes();
+    in_memory();
     copies();
 }
 
 fn fills() {
     for (name, shape, bound, times) in packing::times() {
+        row(name, shape, &times, bound);
+    }
+}
+
+fn in_memory() {
+    for (name, shape, bound, times) in memory::times() {
         row(name, shape, &times, bound);
     }
 }

@@ -2,9 +2,6 @@
 
 use mtld3d_types::D3DMATRIX;
 
-pub use loops::bench_set_light_at as set_light_at;
-pub use loops::bench_set_light_enabled_at as set_light_enabled_at;
-pub use loops::bench_set_transform as set_transform;
 pub use loops::bench_vs_source_light_inputs as vs_source_light_inputs;
 
 mod loops {
@@ -18,9 +15,6 @@ mod loops {
         pub fn bench_inverse(ms: *const f32, ms_len: usize, out: *mut f32, out_len: usize);
 
         // Numbers alone, so that any call is sound.
-        pub safe fn bench_set_transform(n: u32, x: f32) -> f32;
-        pub safe fn bench_set_light_at(n: u32, index: u32, x: f32) -> f32;
-        pub safe fn bench_set_light_enabled_at(n: u32, index: u32) -> u32;
         pub safe fn bench_vs_source_light_inputs(n: u32, index: u32) -> u32;
     }
 }

@@ -24,7 +24,7 @@ pub fn spread(x: f32) -> D3DMATRIX {
     }
 }
 
-fn spot() -> D3DLIGHT9 {
+pub fn spot() -> D3DLIGHT9 {
     D3DLIGHT9 {
         type_: D3DLIGHT_SPOT,
         direction: D3DVECTOR {

@@ -2,7 +2,7 @@
 
 use std::hint::black_box;
 
-use mtld3d_types::{D3DLIGHT9, D3DMATRIX, D3DTS_WORLD};
+use mtld3d_types::D3DMATRIX;
 use original::ff_state::FfState;
 
 /// The bytes of our state.
@@ -73,44 +73,9 @@ pub fn inverse(ms: &[D3DMATRIX], out: &mut [D3DMATRIX]) {
     }
 }
 
-/// The state goes through `black_box` at each turn of this loop and those below, as a host holds it
-/// in memory: else the compiler could keep only the last store.
-#[inline(never)]
-pub fn set_transform(n: u32, x: f32) -> f32 {
-    let mut s = FfState::new();
-    let mut v = x;
-    for i in 0..n {
-        let mut m = D3DMATRIX::IDENTITY;
-        m.m[12] = v;
-        black_box(&mut s).set_transform(D3DTS_WORLD + i % 4, &m);
-        v += 1.0;
-    }
-    s.transform(D3DTS_WORLD + 3).map_or(0.0, |m| m.m[12])
-}
-
-#[inline(never)]
-pub fn set_light_at(n: u32, index: u32, x: f32) -> f32 {
-    let mut s = FfState::new();
-    let mut v = x;
-    for _ in 0..n {
-        let mut light = D3DLIGHT9::default();
-        light.position.x = v;
-        black_box(&mut s).set_light_at(index, &light);
-        v += 1.0;
-    }
-    s.get_light_at(index).map_or(0.0, |light| light.position.x)
-}
-
-#[inline(never)]
-pub fn set_light_enabled_at(n: u32, index: u32) -> u32 {
-    let mut s = FfState::new();
-    for i in 0..n {
-        black_box(&mut s).set_light_enabled_at(index, i % 2 == 1);
-    }
-    u32::from(s.is_light_enabled_at(index))
-}
-
-/// The fields are private, so that a light is switched by a call; ours stores the mask.
+/// The state goes through `black_box` at each turn, as a host holds it in memory: else the compiler could keep only the last
+/// store.
+/// Its fields are private, so that a light is switched by a call; ours stores the mask.
 #[inline(never)]
 pub fn vs_source_light_inputs(n: u32, index: u32) -> u32 {
     let mut s = FfState::new();

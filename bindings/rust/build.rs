@@ -1,4 +1,4 @@
-//! Links libhost.a from FF_STATE_LIB_DIR, else from target/staticlib of this repository.
+//! Links the library's archives from FF_STATE_LIB_DIR, else from target/staticlib of this repository.
 
 use std::env;
 use std::path::PathBuf;
@@ -11,17 +11,25 @@ fn main() {
         Some(folder) => PathBuf::from(folder),
         None => manifest.join("../../target/staticlib"),
     };
-    let library = folder.join("libhost.a");
-    println!("cargo:rerun-if-changed={}", library.display());
-    if !library.is_file() {
-        eprintln!(
-            "ff_state: no {}: run rt staticlib host, or set FF_STATE_LIB_DIR to the folder of libhost.a",
-            library.display()
-        );
-        exit(1);
-    }
     println!("cargo:rustc-link-search=native={}", folder.display());
-    println!("cargo:rustc-link-lib=static=host");
+    for name in [
+        "host",
+        "lent_state",
+        "lent_lights",
+        "lent_images",
+        "lent_refresh",
+    ] {
+        let library = folder.join(format!("lib{name}.a"));
+        println!("cargo:rerun-if-changed={}", library.display());
+        if !library.is_file() {
+            eprintln!(
+                "ff_state: no {}: run rt staticlib {name}, or set FF_STATE_LIB_DIR to the folder of the archives",
+                library.display()
+            );
+            exit(1);
+        }
+        println!("cargo:rustc-link-lib=static={name}");
+    }
     // The cosine's `%` is C's fmodf.
     println!("cargo:rustc-link-lib=m");
 }

@@ -7,12 +7,18 @@ use std::process::Command;
 fn main() {
     let manifest = PathBuf::from(env::var_os("CARGO_MANIFEST_DIR").expect("set by cargo"));
     let folder = manifest.join("../../target/staticlib");
-    println!(
-        "cargo:rerun-if-changed={}",
-        folder.join("libhost.a").display()
-    );
     println!("cargo:rustc-link-search=native={}", folder.display());
-    println!("cargo:rustc-link-lib=static=host");
+    for name in [
+        "host",
+        "lent_state",
+        "lent_lights",
+        "lent_images",
+        "lent_refresh",
+    ] {
+        let archive = folder.join(format!("lib{name}.a"));
+        println!("cargo:rerun-if-changed={}", archive.display());
+        println!("cargo:rustc-link-lib=static={name}");
+    }
     // The cosine's `%` is C's fmodf.
     println!("cargo:rustc-link-lib=m");
 

@@ -38,6 +38,19 @@
 //! # Ok::<(), ff_state::Refusal>(())
 //! ```
 //!
+//! A player that makes many calls in a frame holds an [`FfState`] instead, which is changed in place:
+//!
+//! ```
+//! use ff_state::{D3DTS_VIEW, FfImage, FfState, MIRROR_FLOATS, Matrix, VsKey};
+//!
+//! let (mut state, mut mirror) = (FfState::fresh(), vec![0.0; MIRROR_FLOATS]);
+//! state.set_transform(D3DTS_VIEW, &Matrix::IDENTITY)?;
+//! assert_eq!(state.refresh(&VsKey::default(), &mut mirror), Ok(ff_state::ALL_DIRTY));
+//! let image: FfImage = state.to_image();
+//! assert_eq!(FfState::from_image(&image).to_image(), image);
+//! # Ok::<(), ff_state::Refusal>(())
+//! ```
+//!
 //! A NaN of any bit pattern is a NaN: what is stored and answered is 0x7FC00000.
 
 #![warn(missing_docs)]
@@ -49,6 +62,7 @@ mod packing;
 mod raw;
 mod records;
 mod refusal;
+mod state;
 
 pub use arithmetic::{cos, inverse, mat_mul, sqrt, transpose};
 pub use image::{
@@ -62,3 +76,4 @@ pub use records::{
     Color, D3DLIGHT_DIRECTIONAL, D3DLIGHT_POINT, D3DLIGHT_SPOT, Light, Material, Matrix, Vector,
 };
 pub use refusal::Refusal;
+pub use state::{FfState, MIRROR_FLOATS};

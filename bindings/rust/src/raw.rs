@@ -1,5 +1,22 @@
 //! The calls by their C names, as include/ff_state.h declares them.
 
+/// `struct ff_state`: a state in memory, whose bytes the library alone reads and writes.
+#[repr(C)]
+#[derive(Clone, PartialEq)]
+pub struct FfState([u32; 6053]);
+
+impl FfState {
+    /// Memory for a state, which `ff_state_fresh` or `ff_state_read_image` makes one.
+    pub const ZEROS: Self = Self([0; 6053]);
+}
+
+/// `struct ff_light`: the type, then 25 floats.
+#[repr(C)]
+pub struct FfLight {
+    pub type_: u32,
+    pub floats: [f32; 25],
+}
+
 unsafe extern "C" {
     pub fn ff_image_fresh(image: *mut u8, image_len: usize) -> u32;
     pub fn ff_image_check(image: *const u8, image_len: usize) -> u32;
@@ -106,4 +123,33 @@ unsafe extern "C" {
     pub fn ff_fill_palette_section(image: *const u8, image_len: usize, has_rhw: u8, lit: u8, specular: u8, indexed: u8, mask: u8, fog: u8, count: u8, dst: *mut u8, dst_len: usize) -> u32;
     pub fn ff_fill_tt_section(image: *const u8, image_len: usize, has_rhw: u8, lit: u8, specular: u8, indexed: u8, mask: u8, fog: u8, count: u8, dst: *mut u8, dst_len: usize) -> u32;
     pub fn ff_refresh(image: *mut u8, image_len: usize, has_rhw: u8, lit: u8, specular: u8, indexed: u8, mask: u8, fog: u8, count: u8, mirror: *mut u8, mirror_len: usize, out: *mut u32) -> u32;
+}
+
+// The same on a state in memory. A matrix is 16 floats, a material 17.
+unsafe extern "C" {
+    pub fn ff_state_fresh(s: *mut FfState);
+    pub fn ff_state_read_image(s: *mut FfState, image: *const u8, image_len: usize) -> u32;
+    pub fn ff_state_write_image(s: *const FfState, image: *mut u8, image_len: usize) -> u32;
+    pub fn ff_state_set_transform(s: *mut FfState, state: u32, matrix: *const f32) -> u32;
+    pub fn ff_state_multiply_transform(s: *mut FfState, state: u32, matrix: *const f32) -> u32;
+    pub fn ff_state_set_material(s: *mut FfState, material: *const f32) -> u32;
+    pub fn ff_state_set_light_at(s: *mut FfState, index: u32, light: *const FfLight) -> u32;
+    pub fn ff_state_set_light_enabled_at(s: *mut FfState, index: u32, enabled: u32) -> u32;
+    pub fn ff_state_vs_source_light_inputs(s: *const FfState, out: *mut u32) -> u32;
+    pub fn ff_state_mark_ff_vs_dirty(s: *mut FfState, bits: u32) -> u32;
+    pub fn ff_state_take_ff_vs_dirty(s: *mut FfState, out: *mut u32) -> u32;
+    #[rustfmt::skip]
+    pub fn ff_state_refresh(
+        s: *mut FfState,
+        has_rhw: u8,
+        lit: u8,
+        specular: u8,
+        indexed: u8,
+        mask: u8,
+        fog: u8,
+        count: u8,
+        mirror: *mut f32,
+        mirror_len: usize,
+        out: *mut u32,
+    ) -> u32;
 }

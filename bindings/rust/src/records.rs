@@ -1,4 +1,5 @@
-//! Matrices, materials and lights, and the bytes that they cross as: four little-endian bytes a number.
+//! Matrices, materials and lights, and the bytes that they cross as: four little-endian bytes a number. In memory they lie as C
+//! has them, number by number, so that a state in memory takes them by reference.
 
 /// A light whose rays start at its position.
 pub const D3DLIGHT_POINT: u32 = 1;
@@ -8,6 +9,7 @@ pub const D3DLIGHT_SPOT: u32 = 2;
 pub const D3DLIGHT_DIRECTIONAL: u32 = 3;
 
 /// A 4 × 4 matrix, row by row.
+#[repr(C)]
 #[derive(Clone, Copy, Debug, PartialEq)]
 pub struct Matrix {
     /// Row i, column j is `m[i][j]`.
@@ -15,6 +17,7 @@ pub struct Matrix {
 }
 
 /// Four channels.
+#[repr(C)]
 #[derive(Clone, Copy, Debug, Default, PartialEq)]
 #[allow(missing_docs)]
 pub struct Color {
@@ -25,6 +28,7 @@ pub struct Color {
 }
 
 /// A place or a direction.
+#[repr(C)]
 #[derive(Clone, Copy, Debug, Default, PartialEq)]
 #[allow(missing_docs)]
 pub struct Vector {
@@ -34,6 +38,7 @@ pub struct Vector {
 }
 
 /// `D3DMATERIAL9`; a fresh state's has zeros alone.
+#[repr(C)]
 #[derive(Clone, Copy, Debug, Default, PartialEq)]
 #[allow(missing_docs)]
 pub struct Material {
@@ -45,6 +50,7 @@ pub struct Material {
 }
 
 /// `D3DLIGHT9`. A type other than point, spot and directional is stored, and lights nothing.
+#[repr(C)]
 #[derive(Clone, Copy, Debug, PartialEq)]
 #[allow(missing_docs)]
 pub struct Light {

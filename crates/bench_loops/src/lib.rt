@@ -6,7 +6,5 @@ mod fills;
 mod inputs;
 mod lights;
 mod matrices;
-mod mirror;
 mod roots;
-mod transforms;
 mod turns;

@@ -27,7 +27,7 @@ use Rattle.ff_state.specs.declared.state.FfState.{FfState}
 use Rattle.ff_state.proofs.state.FfState as St
 use Rattle.ff_state.proofs.state.FfState.Laws as St′
 use Rattle.lent_refresh.proofs.Fields.{stateVal, openVal, by-fields, IsState}
-use Rattle.lent_refresh.proofs.Rest.{at-ref}
+use Rattle.lent_state.proofs.Rest.{at-ref}
 
 module _ {M : Type 1} (𝓤 : URA M) (H : Heap 𝓤) (A : Atoms 𝓤) (κ : Lft) (q : Share) (b o : ℕ) (γ : GName) where
   -- a state that is lent, with the token of its lifetime

@@ -38,7 +38,7 @@ use Rattle.ff_state.specs.State.{noMatrix, withFfVsDirty, dirtyWord}
 use Rattle.ff_state.specs.declared.state.FfState.{FfState}
 use Rattle.ff_state.proofs.state.FfState as St
 use Rattle.ff_state.proofs.state.FfState.Laws as St′
-use Rattle.lent_refresh.proofs.Item.{vals, array-length, vals-get, array-get}
+use Rattle.lent_state.proofs.Item.{vals, array-length, vals-get, array-get}
 
 -- the machine values
 abbrev pub stateVal : FfState → Val

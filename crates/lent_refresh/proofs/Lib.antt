@@ -1,6 +1,4 @@
 pub mod Again
-pub mod Item
-pub mod Rest
 pub mod Fields
 pub mod Cell
 pub mod Order

@@ -17,9 +17,7 @@ use ff_state::FfState;
 use light_rows::write_lights;
 use light_table::ActiveLights;
 use light_table::OverflowLight;
-use light_table::push_overflow;
-use light_table::push_slots;
-use light_table::used_count;
+use light_table::active_lights;
 use refresh::has_section;
 use sections::FfVsKey;
 use sections::Section;
@@ -34,8 +32,7 @@ pub fn active_of(
 ) -> ActiveLights
     ensures { λ r. ⌜ r ≡ listed 8 (activeParts lights set enabled entries count) ⌝ }
 {
-    let first = push_slots(lights, set & enabled, 8);
-    push_overflow(entries, used_count(count), 8, first)
+    active_lights(lights, set & enabled, entries, count, 8)
 }
 
 // Whether there are rows of lights to write.

@@ -1,5 +1,6 @@
 -- An element of an array that lies within a cell, for a walk by hand: `Types/Part.antt`'s `sub`, of an array. It says nothing of the crate, and can be copied as it stands.
 --     item us k       element k of an array's cell, with the machine values us, that a `Part` finds. So `item ! us i lt e (sub ! 1 refl (whole !))` is `.1[i]` of a struct's cell. Its place is written as MIR's `offset` computes it, `k * size + o`
+--     first-item us   the first one, at the array's own place
 --     recast e        the cell's value is written another way, as a struct's, so that `sub` goes on into it: `sub ! 8 refl (recast ! e (item ! us i lt l (sub ! 2 refl (whole !))))` is `.2[i].8`
 --     vals-set        the machine values of a list of a field's values with p at k
 --     array-set       an array's relation, from the relation of the array before and that of the value that is put in at k
@@ -8,7 +9,7 @@
 -- Assumes `Given` (of it `at-elems`, `elems-at`).
 use mathlib.Core.Path.{_≡_, refl, sym, _∙_, ap, subst}
 use Prim.Native.Nat.{ℕ, zero, suc, _+_, _*_, _<_}
-use native.Mathlib.Nat.{not-suc-le-zero, le-of-suc-le-suc}
+use native.Mathlib.Nat.{not-suc-le-zero, le-of-suc-le-suc, zero-mul}
 use mathlib.Core.List.{List, [], _∷_, map}
 use lib.ListN.{length, getD, set, length-map, length-set}
 use lib.Seq.{set-getD}
@@ -79,6 +80,10 @@ module _ {M : Type 1} {𝓤 : URA M} {H : Heap 𝓤} {A : Atoms 𝓤} {K : Type 
         use2 W (back (arrayVal (set us k u))) (apply∗ 𝓤 (H .at q (tyArray τ n) b o (arrayVal (set us k u))) (mean 𝓤 H A (back (arrayVal (set us k u))))) $ done !);
     same = ap (λ (ws : List Val). back (arrayVal ws)) (set-getD us k vunit) ∙ p .same;
   }
+
+  pub first-item : K → {i : Item 𝓤} {q : Share} {τ : Ty} {n b o : ℕ} {back : Val → Item 𝓤} (us : List Val) → 0 < length us → length us ≡ n
+      → Part K W i q (tyArray τ n) b o (arrayVal us) back → Part K W i q τ b (0 + o) (getD us 0 vunit) (λ u. back (arrayVal (set us 0 u)))
+  first-item t {i} {q} {τ} {n} {b} {o} {back} us lt e p = subst (λ (m : ℕ). Part K W i q τ b (m + o) (getD us 0 vunit) (λ u. back (arrayVal (set us 0 u)))) (zero-mul (size τ)) (item t us 0 lt e p)
 
   pub recast : K → {i : Item 𝓤} {q : Share} {τ : Ty} {b o : ℕ} {v w : Val} {back : Val → Item 𝓤} → v ≡ w → Part K W i q τ b o v back → Part K W i q τ b o w back
   recast t {i} {q} {τ} {b} {o} {v} {w} {back} e p = subst (λ (u : Val). Part K W i q τ b o u back) e p

@@ -16,3 +16,4 @@ pub mod Scene
 pub mod Refuted
 pub mod Anchor
 pub mod HostAnchor
+pub mod LentAnchor

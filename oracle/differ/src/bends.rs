@@ -307,6 +307,43 @@ bends! {
         RefreshRefusalNumber, "refresh-refusal-number", ["calls"];
         RefreshGuard, "refresh-guard", ["calls"];
     }
+    "ff_state_fresh" {
+        StateFreshClean, "state-fresh-clean", ["calls"];
+    }
+    "ff_state_read_image" {
+        StateReadsRefused, "state-reads-refused", ["calls"];
+    }
+    "ff_state_set_transform" {
+        StateSetsAnother, "state-sets-another", ["calls"];
+    }
+    "ff_state_multiply_transform" {
+        StateMultiplySets, "state-multiply-sets", ["calls"];
+    }
+    "ff_state_set_material" {
+        StateMaterialClean, "state-material-clean", ["calls"];
+    }
+    "ff_state_set_light_at" {
+        StateLightNext, "state-light-next", ["calls"];
+    }
+    "ff_state_set_light_enabled_at" {
+        StateEnablesAny, "state-enables-any", ["calls"];
+    }
+    "ff_state_vs_source_light_inputs" {
+        StateInputsFlag, "state-inputs-flag", ["calls"];
+    }
+    "ff_state_mark_ff_vs_dirty" {
+        StateMarkMasks, "state-mark-masks", ["calls"];
+    }
+    "ff_state_take_ff_vs_dirty" {
+        StateTakeLeaves, "state-take-leaves", ["calls"];
+    }
+    "ff_state_refresh" {
+        StateRefreshLeaves, "state-refresh-leaves", ["calls"];
+        StateRefusedTakes, "state-refused-takes", ["calls"];
+        StateRefusedTells, "state-refused-tells", ["calls"];
+        StateRefreshRow, "state-refresh-row", ["calls"];
+        StateRefreshGuard, "state-refresh-guard", ["calls"];
+    }
 }
 
 pub fn named(name: &str) -> Option<Bend> {

@@ -4,6 +4,7 @@ use cases::call::{Call, NAMES};
 use cases::{edges, lists, packs};
 
 use crate::host::Host;
+use crate::memory::Unlike;
 use crate::report::{Difference, Outcome, Run};
 use crate::shrink_list::shrink;
 use crate::step::Pair;
@@ -23,7 +24,7 @@ fn run_list(
     calls: &[Call],
     shift: usize,
     tally: &mut Tally,
-) -> Option<(usize, String)> {
+) -> Option<(usize, Unlike)> {
     let mut pair = Pair::fresh(host, shift);
     for (at, call) in calls.iter().enumerate() {
         let (judged, found) = pair.step(call, shift + at);
@@ -42,8 +43,8 @@ fn run_list(
 fn difference(host: Host, what: &str, calls: Vec<Call>, shift: usize) -> Difference {
     let unlike = |calls: &[Call]| run_list(host, calls, shift, &mut Tally::default());
     let least = shrink(calls, |calls| unlike(calls).map(|(at, _)| at));
-    let (at, found) = unlike(&least).expect("a list that fails was kept");
-    let call = least[at].name.form().c_name;
+    let (_, found) = unlike(&least).expect("a list that fails was kept");
+    let call = found.call;
     let mut text = format!(
         "difference: {call}, {what}; smallest list, on a fresh image and a mirror of zeros:\n"
     );
@@ -52,7 +53,7 @@ fn difference(host: Host, what: &str, calls: Vec<Call>, shift: usize) -> Differe
             text += &format!("  {line}\n");
         }
     }
-    text += &format!("  {found}\n");
+    text += &format!("  {}\n", found.what);
     Difference { call, text }
 }
 

@@ -12,6 +12,7 @@ mod host;
 mod lengths;
 mod lists;
 mod matrices;
+mod memory;
 #[path = "../../../bindings/rust/src/raw.rs"]
 mod raw;
 mod report;
@@ -95,6 +96,7 @@ fn short(run: &mut Run, host: Host, seed: u64) -> Result<Outcome, String> {
         .and_then(|()| scalars::cosines(run, host, 2_000_000))
         .and_then(|()| matrices::matrices(run, host, 400_000))
         .and_then(|()| lengths::lengths(run, host))
+        .and_then(|()| memory::lengths(run, host))
         .and_then(|()| lists::row_counts(run, host, SPARSE))
         .and_then(|()| short_lists(run, host))
         .and_then(|()| {
@@ -116,7 +118,7 @@ fn compare(run: &mut Run, arguments: &Arguments) -> Result<Outcome, String> {
         "sqrt-all" => scalars::all_roots(run, host),
         "cos" => scalars::cosines(run, host, count(20_000_000)),
         "matrix" => matrices::matrices(run, host, count(5_000_000)),
-        "lengths" => lengths::lengths(run, host),
+        "lengths" => lengths::lengths(run, host).and_then(|()| memory::lengths(run, host)),
         "calls" => lists::calls(run, host, count(20_000_000)),
         "packs" => lists::packs(run, host, count(20_000_000)),
         "row-count" => {

@@ -7,13 +7,16 @@ use cases::world::{Judged, World};
 use crate::guarded::Guarded;
 use crate::handed::{Handed, unlike_image};
 use crate::host::{Host, Lent};
+use crate::memory::{Memory, Unlike};
 
-/// The running image and the running mirror, ours beside the world's, which they are like until a call differs.
+/// The running image and the running mirror, and a state and its mirror in memory, ours beside the world's, which they are like
+/// until a call differs.
 pub struct Pair {
     host: Host,
     world: World,
     image: Guarded,
     mirror: Guarded,
+    memory: Memory,
 }
 
 impl Pair {
@@ -24,12 +27,13 @@ impl Pair {
             host,
             image: Guarded::holding(world.image(), shift),
             mirror: Guarded::holding(world.mirror(), shift / 4),
+            memory: Memory::fresh(host.bend),
             world,
         }
     }
 
     /// Makes one call on both sides. The answer says what is unlike.
-    pub fn step(&mut self, call: &Call, shift: usize) -> (Judged, Option<String>) {
+    pub fn step(&mut self, call: &Call, shift: usize) -> (Judged, Option<Unlike>) {
         let mut damaged = call.damage.as_ref().map(|damage| {
             let mut bytes = self.world.image().to_vec();
             damage.apply(&mut bytes);
@@ -73,7 +77,17 @@ impl Pair {
         if judged.call.lends_mirror() {
             self.mirror = handed.out;
         }
-        (judged, found)
+        let found = match found {
+            Some(what) => Err(Unlike {
+                call: judged.call.name.form().c_name,
+                what,
+            }),
+            None => {
+                let given = before.as_ref().map(Guarded::slice);
+                self.memory.step(&judged, given, &self.world)
+            }
+        };
+        (judged, found.err())
     }
 
     /// What the world must keep for any of it to mean something.

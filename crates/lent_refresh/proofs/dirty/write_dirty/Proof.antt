@@ -7,7 +7,7 @@ use Rattle.ff_state.specs.State.{noMatrix, withFfVsDirty, dirtyWord}
 use Rattle.refresh.specs.Written.{writtenSection, written}
 use Rattle.lent_refresh.specs.Parts.{writtenSmall}
 use Rattle.lent_refresh.proofs.Order.{all-are, taken-are}
-use Rattle.lent_refresh.proofs.Item.{first-item}
+use Rattle.lent_state.proofs.Item.{first-item}
 use Rattle.lent_refresh.proofs.Fields.{wideVal, palette-val, dirty-val, cleanVal, dirty-wide}
 use mathlib.Core.Path.{_≡_, refl, sym, ap, subst, _∙_}
 use Prim.Native.Nat.{ℕ, _<_, _^_}
@@ -64,7 +64,7 @@ use Rattle.ff_state.specs.declared.state.FfState.{FfState}
 use Rattle.ff_state.proofs.state.FfState as St
 use Rattle.ff_state.proofs.state.FfState.Laws as St′
 use Rattle.lent_refresh.proofs.Fields.{keyVal, part, openVal, IsState, IsKey, key-typed, view-is, projection-is, material-is, world-is, world-val, world-typed, palette-length, palette-some, view-typed, projection-typed, material-typed, palette-typed, dirty-typed, with-dirty, matrixVal, matrixVals, symOf, tysOf, St-name}
-use Rattle.lent_refresh.proofs.Rest.{env, at-ref}
+use Rattle.lent_state.proofs.Rest.{env, at-ref}
 use Rattle.lent_refresh.proofs.Again as Slices
 use Rattle.lent_refresh.proofs.Cell.{Shut, Wide, Mirror, shut-in, mirror-in, unlock, lock}
 use Rattle.lent_refresh.proofs.small.write_small as small

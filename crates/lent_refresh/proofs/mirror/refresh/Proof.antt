@@ -57,7 +57,7 @@ use Rattle.ff_state.specs.declared.state.FfState.{FfState}
 use Rattle.ff_state.proofs.state.FfState as St
 use Rattle.ff_state.proofs.state.FfState.Laws as St′
 use Rattle.lent_refresh.proofs.Fields.{keyVal, IsKey, key-typed, symOf, tysOf, St-name}
-use Rattle.lent_refresh.proofs.Rest.{behind, env, at-ref, fails}
+use Rattle.lent_state.proofs.Rest.{behind, env, at-ref, fails}
 use Rattle.lent_refresh.proofs.Again as Slices
 use Rattle.lent_refresh.proofs.Cell.{Shut, Mirror, Count, shut-in, mirror-in, count-in}
 use Rattle.lent_refresh.proofs.number.refresh_number as tests

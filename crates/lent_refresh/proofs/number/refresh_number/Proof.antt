@@ -54,7 +54,7 @@ use Rattle.ff_state.specs.declared.state.FfState.{FfState}
 use Rattle.ff_state.proofs.state.FfState as St
 use Rattle.ff_state.proofs.state.FfState.Laws as St′
 use Rattle.lent_refresh.proofs.Fields.{keyVal, part, openVal, by-fields, IsState, IsKey, key-typed, lights-are, set-is, enabled-is, entries-are, count-is, lights-typed, set-typed, enabled-typed, entries-typed, count-typed, symOf, tysOf, St-name}
-use Rattle.lent_refresh.proofs.Rest.{behind, env, at-ref, fails}
+use Rattle.lent_state.proofs.Rest.{behind, env, at-ref, fails}
 use Rattle.lent_refresh.proofs.Cell.{Shut, Wide, shut-in, unlock, lock}
 use Rattle.lent_refresh.proofs.number.first_number as first-tests
 use Rattle.lent_refresh.proofs.number.first_number.Symbol as first-tests-def

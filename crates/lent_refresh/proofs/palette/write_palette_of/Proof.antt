@@ -64,7 +64,7 @@ use Rattle.ff_state.specs.declared.state.FfState.{FfState}
 use Rattle.ff_state.proofs.state.FfState as St
 use Rattle.ff_state.proofs.state.FfState.Laws as St′
 use Rattle.lent_refresh.proofs.Fields.{keyVal, part, openVal, by-fields, IsState, IsKey, key-typed, view-is, palette-is, view-typed, palette-typed, symOf, tysOf, St-name}
-use Rattle.lent_refresh.proofs.Rest.{behind, env, at-ref, holds, fails}
+use Rattle.lent_state.proofs.Rest.{behind, env, at-ref, holds, fails}
 use Rattle.lent_refresh.proofs.Again as Slices
 use Rattle.lent_refresh.proofs.Cell.{Shut, Wide, Mirror, shut-in, mirror-in, unlock, lock}
 use Rattle.lent_refresh.proofs.palette.palette_due as due
