@@ -5,7 +5,7 @@ use d3d9_types::D3DMATRIX;
 use d3d9_types::Row;
 
 // The row vector `a` times `m`.
-fn times_row(a: Row, m: D3DMATRIX) -> Row
+pub fn times_row(a: Row, m: D3DMATRIX) -> Row
     ensures { λ r. ⌜ r ≡ timesRow a m ⌝ }
 {
     Row {

@@ -25,14 +25,14 @@ loop-holds c =
     let a = c .before .args in
     begins (worldViewRows (a .view)) 4 (λ m. refl) (a .n) (a .t3) (a .dst .now) (omega (arith, c .before .good .1 .1 .0 .1 .0 .1)) (c .before .pre .1)
 
-mul-mat-mul : tie.Need-mul-mat-mul Inv-loop μ-loop
-mul-mat-mul c = omega arith
+mul-product : tie.Need-mul-product Inv-loop μ-loop
+mul-product c = omega arith
 
-array-copy-out-mat-mul : tie.Need-array-copy-out-mat-mul Inv-loop μ-loop
-array-copy-out-mat-mul c = omega arith
+array-copy-out-product : tie.Need-array-copy-out-product Inv-loop μ-loop
+array-copy-out-product c = omega arith
 
-mat-mul-requires : tie.Need-mat-mul-requires Inv-loop μ-loop
-mat-mul-requires c κs = tt
+product-requires : tie.Need-product-requires Inv-loop μ-loop
+product-requires c κs = tt
 
 transpose-requires : tie.Need-transpose-requires Inv-loop μ-loop
 transpose-requires c κs = tt
@@ -61,7 +61,7 @@ loop-again c =
     let a = l .before .before .args in
     goes-on (worldViewRows (a .view)) 4 (λ m. refl) (a .n) (a .t3) (a .dst .now) _ (l .loop .i) (l .loop .at) (l .loop .dst) _ (l .loop .inv) (omega arith)
     (wrote .write-matrix .ensures
-    ∙ ap (λ (m : D3DMATRIX). sets (l .loop .dst) (l .loop .at) (floats (matrixRows m))) (wrote .before .transpose .ensures ∙ ap transposed (wrote .before .before .mat-mul .ensures)))
+    ∙ ap (λ (m : D3DMATRIX). sets (l .loop .dst) (l .loop .at) (floats (matrixRows m))) (wrote .before .transpose .ensures ∙ ap transposed (wrote .before .before .product .ensures)))
 
 same-length : tie.Need-same-length Inv-loop μ-loop
 same-length c = search needs
@@ -80,9 +80,9 @@ write-palette-spec =
     Inv-loop
     μ-loop
     loop-holds
-    mul-mat-mul
-    array-copy-out-mat-mul
-    mat-mul-requires
+    mul-product
+    array-copy-out-product
+    product-requires
     transpose-requires
     write-matrix-requires
     add-i
