@@ -19,16 +19,13 @@ use denote.RattleType.{RattleType, flat}
 use denote.Shadow.{shadow}
 use denote.Struct.Declared.{fields}
 use denote.Struct.Laws as LL
-use Rattle.d3d9_types.specs.declared.light.D3DLIGHT9.{D3DLIGHT9}
 use Rattle.d3d9_types.proofs.light.D3DLIGHT9 as Lt
 use Rattle.d3d9_types.proofs.light.D3DLIGHT9.Laws as Lt′
-use Rattle.d3d9_types.specs.declared.material.D3DMATERIAL9.{D3DMATERIAL9}
 use Rattle.d3d9_types.proofs.material.D3DMATERIAL9 as Mt
 use Rattle.d3d9_types.proofs.material.D3DMATERIAL9.Laws as Mt′
 use Rattle.d3d9_types.specs.declared.matrix.D3DMATRIX.{D3DMATRIX}
 use Rattle.d3d9_types.proofs.matrix.D3DMATRIX as Mx
 use Rattle.d3d9_types.proofs.matrix.D3DMATRIX.Laws as Mx′
-use Rattle.light_table.specs.declared.entry.OverflowLight.{OverflowLight}
 use Rattle.light_table.proofs.entry.OverflowLight as En
 use Rattle.light_table.proofs.entry.OverflowLight.Laws as En′
 use Rattle.sections.specs.declared.key.FfVsKey.{FfVsKey}
@@ -50,17 +47,8 @@ keyVal = LL.val Ky.the-type Ky′.the-laws
 abbrev pub matrixVal : D3DMATRIX → Val
 matrixVal = LL.val Mx.the-type Mx′.the-laws
 
-abbrev pub materialVal : D3DMATERIAL9 → Val
-materialVal = LL.val Mt.the-type Mt′.the-laws
-
 abbrev pub matrixVals : List D3DMATRIX → List Val
 matrixVals ms = vals Mx.the-field Mx′.the-field-laws ms
-
-abbrev pub lightVals : List D3DLIGHT9 → List Val
-lightVals ls = vals Lt.the-field Lt′.the-field-laws ls
-
-abbrev pub entryVals : List OverflowLight → List Val
-entryVals es = vals En.the-field En′.the-field-laws es
 
 -- the name and the fields of a struct's type; the name of the state's
 abbrev pub symOf : Ty → Sym

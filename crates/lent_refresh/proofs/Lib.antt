@@ -2,5 +2,4 @@ pub mod Again
 pub mod Fields
 pub mod Cell
 pub mod Order
-pub mod Sizes
 pub mod Numbers

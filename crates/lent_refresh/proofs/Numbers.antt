@@ -23,7 +23,7 @@ use Rattle.refresh.specs.declared.answer.RefreshAnswer.{RefreshAnswer}
 use Rattle.refresh.specs.declared.answer.RefreshAnswer.the-variants.{Accepted, WrongLength, HasRhw, WrongMask}
 use Rattle.refresh.proofs.Answers.{number-is, accepted-fits}
 use Rattle.lent_refresh.specs.Mirror.{LentRefreshed, left, told, lentRefresh}
-use Rattle.lent_refresh.specs.Parts.{firstNumber, maskNumber, partLights}
+use Rattle.refresh_parts.specs.Parts.{firstNumber, maskNumber, partLights}
 
 -- by the length, HAS_RHW, a mask of 0, and one that is that of the lights
 abbrev first : Bool → Bool → Bool → ℕ
@@ -73,7 +73,7 @@ zero-accepted WrongMask e = absurd (omega arith)
 pub accepted-long : (s : FfState) (k : FfVsKey) (n : ℕ) → refreshNumber (refreshAnswer s k n) ≡ 0 → n ≡ 4460
 accepted-long s k n e = accepted-fits s k n (zero-accepted (refreshAnswer s k n) e) .long
 
-pub accepted-is : (s : FfState) (k : FfVsKey) (m : List Float) (out : ℕ) → refreshNumber (refreshAnswer s k (length m)) ≡ 0
+accepted-is : (s : FfState) (k : FfVsKey) (m : List Float) (out : ℕ) → refreshNumber (refreshAnswer s k (length m)) ≡ 0
     → left 0 (takeFfVsDirty s .state) (written sections (takeFfVsDirty s .bits) s k m) (takeFfVsDirty s .bits) ≡ lentRefresh s k m out
 unfolding lentRefresh refreshMirror refreshBy refreshNumber told
 accepted-is s k m out e = rw (zero-accepted (refreshAnswer s k (length m)) e)

@@ -1,4 +1,4 @@
--- One section after another: the three small ones, and all of them in the table's order. Assumes nothing.
+-- The sections one after another, in the table's order. Assumes nothing.
 use Prim.Native.Nat.{ℕ}
 use mathlib.Core.Path.{_≡_, refl, sym, ap, _∙_}
 use mathlib.Core.Bool.{Bool, true, false, cond, not, _&&_}
@@ -9,43 +9,29 @@ use lib.ListN.{getD, take}
 use Rattle.lemmas.proofs.Tests.{never}
 use Rattle.codec.specs.Put.{put}
 use Rattle.codec.proofs.Put.{put-none}
-use Rattle.d3d9_types.specs.declared.material.D3DMATERIAL9.{D3DMATERIAL9}
-use Rattle.d3d9_types.specs.declared.matrix.D3DMATRIX.{D3DMATRIX}
 use Rattle.sections.specs.Sections.{sections, hasSection}
 use Rattle.sections.specs.declared.key.FfVsKey.{FfVsKey}
-use Rattle.sections.specs.declared.sections.Section.the-variants.{Wv, Proj, Material, Lights, Palette}
+use Rattle.sections.specs.declared.sections.Section.the-variants.{Lights, Palette}
 use Rattle.ff_state.specs.Active.{activeLights, lightActiveMask}
 use Rattle.ff_state.specs.Dirty.{takeFfVsDirty}
 use Rattle.ff_state.specs.State.{noMatrix, withFfVsDirty, dirtyWord}
 use Rattle.ff_state.specs.declared.state.FfState.{FfState}
 use Rattle.rows.specs.Rows.{floats}
-use Rattle.rows.specs.Material.{materialRows}
-use Rattle.rows.specs.Matrices.{projectionRows, worldViewRows, paletteRows}
+use Rattle.rows.specs.Matrices.{paletteRows}
 use Rattle.light_rows.specs.Light.{lightsRows}
 use Rattle.sections.specs.Counts.{paletteMatrices}
 use Rattle.packing.specs.Inputs.{packedRows}
 use Rattle.refresh.specs.Written.{writtenSection, written}
 use Rattle.refresh.proofs.Writes.{tt-nothing}
-use Rattle.lent_refresh.specs.Parts.{partLights, writtenRows, writtenSmall}
-
-pub small-is : (bits : ℕ) (k : FfVsKey) (view world projection : D3DMATRIX) (material : D3DMATERIAL9) (m m₁ m₂ m₃ : List Float)
-    → m₁ ≡ writtenRows Wv bits (worldViewRows view world) m
-    → m₂ ≡ writtenRows Proj bits (projectionRows projection) m₁
-    → m₃ ≡ writtenRows Material bits (materialRows (k .«lighting_enabled») (k .«specular_enable») material) m₂
-    → m₃ ≡ writtenSmall bits k view world projection material m
-unfolding writtenSmall
-small-is bits k view world projection material m m₁ m₂ m₃ e₁ e₂ e₃ =
-    e₃
-    ∙ ap (writtenRows Material bits (materialRows (k .«lighting_enabled») (k .«specular_enable») material))
-    (e₂ ∙ ap (writtenRows Proj bits (projectionRows projection)) e₁)
+use Rattle.refresh_parts.specs.Parts.{partLights, writtenRows, writtenSmall}
 
 module _ (s : FfState) (k : FfVsKey) (bits : ℕ) where
   -- what is written does not depend on the dirty word
-  pub lights-clean : (m : List Float) → writtenSection Lights bits (withFfVsDirty s 0) k m ≡ writtenSection Lights bits s k m
+  lights-clean : (m : List Float) → writtenSection Lights bits (withFfVsDirty s 0) k m ≡ writtenSection Lights bits s k m
   unfolding writtenSection packedRows activeLights lightActiveMask
   lights-clean m = refl
 
-  pub palette-clean : (m : List Float) → writtenSection Palette bits (withFfVsDirty s 0) k m ≡ writtenSection Palette bits s k m
+  palette-clean : (m : List Float) → writtenSection Palette bits (withFfVsDirty s 0) k m ≡ writtenSection Palette bits s k m
   unfolding writtenSection packedRows
   palette-clean m = refl
 

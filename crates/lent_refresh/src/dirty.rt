@@ -6,8 +6,8 @@ ghost use Rattle.sections.specs.Sections.{sections};
 ghost use Rattle.refresh.specs.Written.{written};
 use crate::lights::write_lights_of;
 use crate::palette::write_palette_of;
-use crate::small::write_small;
 use ff_state::FfState;
+use refresh_parts::write_small;
 use sections::FfVsKey;
 
 // Takes the dirty bits, which are none afterwards, and writes the sections that they name.

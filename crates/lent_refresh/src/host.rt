@@ -4,29 +4,7 @@ ghost use Rattle.pack_calls.specs.Key.{keyOf};
 ghost use Rattle.lent_refresh.specs.Mirror.{left, lentRefresh};
 use crate::mirror::refresh;
 use ff_state::FfState;
-use sections::FfVsKey;
-
-fn key_of(
-    has_rhw: u8,
-    lighting_enabled: u8,
-    specular_enable: u8,
-    vertex_blend_indexed: u8,
-    light_active_mask: u8,
-    fog_mode: u8,
-    vertex_blend_count: u8,
-) -> FfVsKey
-    ensures { λ r. ⌜ r ≡ keyOf «has_rhw» «lighting_enabled» «specular_enable» «vertex_blend_indexed» «light_active_mask» «fog_mode» «vertex_blend_count» ⌝ }
-{
-    pack_calls::key_of(
-        has_rhw,
-        lighting_enabled,
-        specular_enable,
-        vertex_blend_indexed,
-        light_active_mask,
-        fog_mode,
-        vertex_blend_count,
-    )
-}
+use pack_calls::key_of;
 
 #[no_mangle]
 pub extern "C" fn ff_state_refresh(

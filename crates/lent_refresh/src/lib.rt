@@ -5,7 +5,6 @@ mod lights;
 mod mirror;
 mod number;
 mod palette;
-mod small;
 
 pub use host::ff_state_refresh;
 pub use mirror::refresh;

@@ -1,67 +1,12 @@
 // The lights of a mirror.
 ghost use mathlib.Core.Path.{_≡_};
-ghost use mathlib.Core.Bool.{_&&_, not};
-ghost use lib.Dec.{eqb};
 ghost use lib.ListN.{length};
-ghost use Rattle.codec.specs.Put.{put};
-ghost use Rattle.light_table.specs.Active.{listed};
-ghost use Rattle.sections.specs.Sections.{hasSection};
 ghost use Rattle.sections.specs.declared.sections.Section.the-variants.{Lights};
-ghost use Rattle.rows.specs.Rows.{floats};
-ghost use Rattle.light_rows.specs.Light.{lightsRows};
 ghost use Rattle.refresh.specs.Written.{writtenSection};
-ghost use Rattle.lent_refresh.specs.Parts.{activeParts, partLights};
-use d3d9_types::D3DLIGHT9;
-use d3d9_types::D3DMATRIX;
 use ff_state::FfState;
-use light_rows::write_lights;
-use light_table::ActiveLights;
-use light_table::OverflowLight;
-use light_table::active_lights;
-use refresh::has_section;
+use refresh_parts::lights_due;
+use refresh_parts::put_lights;
 use sections::FfVsKey;
-use sections::Section;
-
-// The first eight active lights, from what they are made from.
-pub fn active_of(
-    lights: [D3DLIGHT9; 8],
-    set: u8,
-    enabled: u8,
-    entries: [OverflowLight; 56],
-    count: u16,
-) -> ActiveLights
-    ensures { λ r. ⌜ r ≡ listed 8 (activeParts lights set enabled entries count) ⌝ }
-{
-    active_lights(lights, set & enabled, entries, count, 8)
-}
-
-// Whether there are rows of lights to write.
-fn lights_due(bits: u32, key: FfVsKey) -> bool
-    ensures { λ r. ⌜ r ≡ (hasSection bits Lights && not (eqb (key .«light_active_mask») 0)) ⌝ }
-{
-    if has_section(bits, Section::Lights) {
-        return key.light_active_mask != 0;
-    }
-    false
-}
-
-fn put_lights(
-    view: D3DMATRIX,
-    lights: [D3DLIGHT9; 8],
-    set: u8,
-    enabled: u8,
-    entries: [OverflowLight; 56],
-    count: u16,
-    mirror: &mut [f32],
-)
-    requires { ⌜ length (now mirror) ≡ 4460 ⌝ }
-    ensures { λ _. ⌜ now (mirror .exit) ≡ put 60 (floats (lightsRows view (partLights lights set enabled entries count))) (now (mirror .entry)) ⌝ }
-{
-    let list = active_of(lights, set, enabled, entries, count);
-    let n = list.len;
-    let active = list.lights;
-    write_lights(&mut mirror[60..60 + 24 * n], view, active, n);
-}
 
 // The lights' section, if the bits name it.
 pub fn write_lights_of(s: &mut FfState, bits: u32, key: FfVsKey, mirror: &mut [f32])

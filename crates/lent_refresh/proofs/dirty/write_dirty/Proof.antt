@@ -5,7 +5,7 @@ use Rattle.sections.specs.Sections.{sections}
 use Rattle.sections.specs.declared.sections.Section.the-variants.{Lights, Palette}
 use Rattle.ff_state.specs.State.{noMatrix, withFfVsDirty, dirtyWord}
 use Rattle.refresh.specs.Written.{writtenSection, written}
-use Rattle.lent_refresh.specs.Parts.{writtenSmall}
+use Rattle.refresh_parts.specs.Parts.{writtenSmall}
 use Rattle.lent_refresh.proofs.Order.{all-are, taken-are}
 use Rattle.lent_state.proofs.Item.{first-item}
 use Rattle.lent_refresh.proofs.Fields.{wideVal, palette-val, dirty-val, cleanVal, dirty-wide}
@@ -67,10 +67,10 @@ use Rattle.lent_refresh.proofs.Fields.{keyVal, part, openVal, IsState, 
 use Rattle.lent_state.proofs.Rest.{env, at-ref}
 use Rattle.lent_refresh.proofs.Again as Slices
 use Rattle.lent_refresh.proofs.Cell.{Shut, Wide, Mirror, shut-in, mirror-in, unlock, lock}
-use Rattle.lent_refresh.proofs.small.write_small as small
-use Rattle.lent_refresh.proofs.small.write_small.Symbol as small-def
-use Rattle.lent_refresh.proofs.small.write_small.Symbol.{name as #small}
-use Rattle.lent_refresh.proofs.small.write_small.Met as small-thm
+use Rattle.refresh_parts.proofs.write_small as small
+use Rattle.refresh_parts.proofs.write_small.Symbol as small-def
+use Rattle.refresh_parts.proofs.write_small.Symbol.{name as #small}
+use Rattle.refresh_parts.proofs.write_small.Met as small-thm
 use Rattle.lent_refresh.proofs.lights.write_lights_of as slots
 use Rattle.lent_refresh.proofs.lights.write_lights_of.Symbol as slots-def
 use Rattle.lent_refresh.proofs.lights.write_lights_of.Symbol.{name as #slots}
@@ -546,6 +546,6 @@ write-dirty-spec 𝓤 H 𝓜 𝓖 𝓡 =
     entered 𝓤 H (tripleOf 𝓤 H (𝓖 .A) f.signature (f.spec 𝓤 H (𝓖 .A) (𝓜 .mem) (𝓡 .run)))
     (tables 𝓤 H 𝓜 𝓡 code.env .C) (tables 𝓤 H 𝓜 𝓡 code.env .Λ) #f code.function (code.unfolded 𝓤 H 𝓜 𝓡)
     (meets 𝓤 H (𝓖 .A) (givenOf 𝓤 H 𝓜 𝓖) (𝓜 .mem) (𝓡 .run) (tablesOf 𝓤 H 𝓜 (tables 𝓤 H 𝓜 𝓡 code.env))
-    (cited 𝓤 H (Small 𝓤 H (𝓖 .A) (𝓜 .mem) (𝓡 .run)) 𝓜 𝓡 code.env #small small-def.routine code.calls-lent-refresh·small·write-small (small-thm.met 𝓤 H 𝓜 𝓖 𝓡))
+    (cited 𝓤 H (Small 𝓤 H (𝓖 .A) (𝓜 .mem) (𝓡 .run)) 𝓜 𝓡 code.env #small small-def.routine code.calls-refresh-parts·write-small (small-thm.met 𝓤 H 𝓜 𝓖 𝓡))
     (cited 𝓤 H (Slots 𝓤 H (𝓖 .A) (𝓜 .mem) (𝓡 .run)) 𝓜 𝓡 code.env #slots slots-def.routine code.calls-lent-refresh·lights·write-lights-of (slots-thm.met 𝓤 H 𝓜 𝓖 𝓡))
     (cited 𝓤 H (Worlds 𝓤 H (𝓖 .A) (𝓜 .mem) (𝓡 .run)) 𝓜 𝓡 code.env #worlds worlds-def.routine code.calls-lent-refresh·palette·write-palette-of (worlds-thm.met 𝓤 H 𝓜 𝓖 𝓡)))

@@ -1,5 +1,5 @@
--- `lent_refresh::host::ff_state_refresh` meets its contract: a walk of its MIR. The key is made, and all goes on to `refresh`.
--- Assumes nothing.
+-- `lent_refresh::host::ff_state_refresh` meets its contract: a walk of its MIR. The key is made of the seven numbers; state, mirror and lent number are lent on to `refresh` and come back as it
+-- left them. Assumes nothing.
 use Rattle.pack_calls.specs.Key.{keyOf}
 use Rattle.lent_refresh.specs.Mirror.{LentRefreshed, left, lentRefresh}
 use Rattle.lent_refresh.proofs.Numbers.{all-left}
@@ -56,10 +56,10 @@ use Rattle.lent_refresh.proofs.Fields.{keyVal, IsKey, key-is, key-typed
 use Rattle.lent_state.proofs.Rest.{env, at-ref}
 use Rattle.lent_refresh.proofs.Again as Slices
 use Rattle.lent_refresh.proofs.Cell.{Shut, Mirror, Count, shut-in, mirror-in, count-in}
-use Rattle.lent_refresh.proofs.host.key_of as keys
-use Rattle.lent_refresh.proofs.host.key_of.Symbol as keys-def
-use Rattle.lent_refresh.proofs.host.key_of.Symbol.{name as #keys}
-use Rattle.lent_refresh.proofs.host.key_of.Met as keys-thm
+use Rattle.pack_calls.proofs.key_of as keys
+use Rattle.pack_calls.proofs.key_of.Symbol as keys-def
+use Rattle.pack_calls.proofs.key_of.Symbol.{name as #keys}
+use Rattle.pack_calls.proofs.key_of.Met as keys-thm
 use Rattle.lent_refresh.proofs.mirror.refresh as core
 use Rattle.lent_refresh.proofs.mirror.refresh.Symbol as core-def
 use Rattle.lent_refresh.proofs.mirror.refresh.Symbol.{name as #core}
@@ -424,5 +424,5 @@ ff-state-refresh-spec 𝓤 H 𝓜 𝓖 𝓡 =
     entered 𝓤 H (tripleOf 𝓤 H (𝓖 .A) f.signature (f.spec 𝓤 H (𝓖 .A) (𝓜 .mem) (𝓡 .run)))
     (tables 𝓤 H 𝓜 𝓡 code.env .C) (tables 𝓤 H 𝓜 𝓡 code.env .Λ) #f code.function (code.unfolded 𝓤 H 𝓜 𝓡)
     (meets 𝓤 H (𝓖 .A) (givenOf 𝓤 H 𝓜 𝓖) (𝓜 .mem) (𝓡 .run) (tablesOf 𝓤 H 𝓜 (tables 𝓤 H 𝓜 𝓡 code.env))
-    (cited 𝓤 H (Keys 𝓤 H (𝓖 .A) (𝓜 .mem) (𝓡 .run)) 𝓜 𝓡 code.env #keys keys-def.routine code.calls-lent-refresh·host·key-of (keys-thm.met 𝓤 H 𝓜 𝓖 𝓡))
+    (cited 𝓤 H (Keys 𝓤 H (𝓖 .A) (𝓜 .mem) (𝓡 .run)) 𝓜 𝓡 code.env #keys keys-def.routine code.calls-pack-calls·key-of (keys-thm.met 𝓤 H 𝓜 𝓖 𝓡))
     (cited 𝓤 H (Core 𝓤 H (𝓖 .A) (𝓜 .mem) (𝓡 .run)) 𝓜 𝓡 code.env #core core-def.routine code.calls-lent-refresh·mirror·refresh (core-thm.met 𝓤 H 𝓜 𝓖 𝓡)))

@@ -7,7 +7,7 @@ use Rattle.sections.specs.declared.sections.Section.the-variants.{Lights}
 use Rattle.rows.specs.Rows.{floats}
 use Rattle.light_rows.specs.Light.{lightsRows}
 use Rattle.refresh.specs.Written.{writtenSection}
-use Rattle.lent_refresh.specs.Parts.{partLights}
+use Rattle.refresh_parts.specs.Parts.{partLights}
 use Rattle.lent_refresh.proofs.Order.{lights-put, lights-not}
 use mathlib.Core.Path.{_≡_, refl, sym, ap, subst, _∙_}
 use Prim.Native.Nat.{ℕ, _<_, _^_}
@@ -71,14 +71,14 @@ use Rattle.lent_refresh.proofs.Fields.{keyVal, part, openVal, by-fields
 use Rattle.lent_state.proofs.Rest.{behind, env, at-ref, holds, fails}
 use Rattle.lent_refresh.proofs.Again as Slices
 use Rattle.lent_refresh.proofs.Cell.{Shut, Wide, Mirror, shut-in, mirror-in, unlock, lock}
-use Rattle.lent_refresh.proofs.lights.lights_due as due
-use Rattle.lent_refresh.proofs.lights.lights_due.Symbol as due-def
-use Rattle.lent_refresh.proofs.lights.lights_due.Symbol.{name as #due}
-use Rattle.lent_refresh.proofs.lights.lights_due.Met as due-thm
-use Rattle.lent_refresh.proofs.lights.put_lights as writer
-use Rattle.lent_refresh.proofs.lights.put_lights.Symbol as writer-def
-use Rattle.lent_refresh.proofs.lights.put_lights.Symbol.{name as #writer}
-use Rattle.lent_refresh.proofs.lights.put_lights.Met as writer-thm
+use Rattle.refresh_parts.proofs.lights_due as due
+use Rattle.refresh_parts.proofs.lights_due.Symbol as due-def
+use Rattle.refresh_parts.proofs.lights_due.Symbol.{name as #due}
+use Rattle.refresh_parts.proofs.lights_due.Met as due-thm
+use Rattle.refresh_parts.proofs.put_lights as writer
+use Rattle.refresh_parts.proofs.put_lights.Symbol as writer-def
+use Rattle.refresh_parts.proofs.put_lights.Symbol.{name as #writer}
+use Rattle.refresh_parts.proofs.put_lights.Met as writer-thm
 use Rattle.lent_refresh.proofs.lights.write_lights_of.Key.{name as #f}
 use Rattle.lent_refresh.proofs.lights.write_lights_of as f
 use Rattle.lent_refresh.proofs.lights.write_lights_of.Statement as stated
@@ -383,5 +383,5 @@ write-lights-of-spec 𝓤 H 𝓜 𝓖 𝓡 =
     entered 𝓤 H (tripleOf 𝓤 H (𝓖 .A) f.signature (f.spec 𝓤 H (𝓖 .A) (𝓜 .mem) (𝓡 .run)))
     (tables 𝓤 H 𝓜 𝓡 code.env .C) (tables 𝓤 H 𝓜 𝓡 code.env .Λ) #f code.function (code.unfolded 𝓤 H 𝓜 𝓡)
     (meets 𝓤 H (𝓖 .A) (givenOf 𝓤 H 𝓜 𝓖) (𝓜 .mem) (𝓡 .run) (tablesOf 𝓤 H 𝓜 (tables 𝓤 H 𝓜 𝓡 code.env))
-    (cited 𝓤 H (Due 𝓤 H (𝓖 .A) (𝓜 .mem) (𝓡 .run)) 𝓜 𝓡 code.env #due due-def.routine code.calls-lent-refresh·lights·lights-due (due-thm.met 𝓤 H 𝓜 𝓖 𝓡))
-    (cited 𝓤 H (Writer 𝓤 H (𝓖 .A) (𝓜 .mem) (𝓡 .run)) 𝓜 𝓡 code.env #writer writer-def.routine code.calls-lent-refresh·lights·put-lights (writer-thm.met 𝓤 H 𝓜 𝓖 𝓡)))
+    (cited 𝓤 H (Due 𝓤 H (𝓖 .A) (𝓜 .mem) (𝓡 .run)) 𝓜 𝓡 code.env #due due-def.routine code.calls-refresh-parts·lights-due (due-thm.met 𝓤 H 𝓜 𝓖 𝓡))
+    (cited 𝓤 H (Writer 𝓤 H (𝓖 .A) (𝓜 .mem) (𝓡 .run)) 𝓜 𝓡 code.env #writer writer-def.routine code.calls-refresh-parts·put-lights (writer-thm.met 𝓤 H 𝓜 𝓖 𝓡)))

@@ -1,5 +1,5 @@
--- `lent_refresh::mirror::refresh` meets its contract: a walk of its MIR. The number is found first; only where it is 0 are state, mirror and the lent number written.
--- Assumes nothing.
+-- `lent_refresh::mirror::refresh` meets its contract: a walk of its MIR. The number is found first; only where it is 0 are state, mirror and the lent number written, and the mirror is then as
+-- long as `write_dirty` asks. Assumes nothing.
 use Rattle.ff_state.specs.Dirty.{takeFfVsDirty}
 use Rattle.sections.specs.Sections.{sections}
 use Rattle.refresh.specs.Answer.{refreshAnswer, refreshNumber}

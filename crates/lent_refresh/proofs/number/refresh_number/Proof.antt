@@ -1,7 +1,7 @@
 -- `lent_refresh::number::refresh_number` meets its contract: a walk of its MIR. Where a mask has to be compared the borrow is opened and the parts that lights are made from are copied out; else
 -- the borrow stays shut. Assumes nothing.
 use Rattle.refresh.specs.Answer.{refreshAnswer, refreshNumber}
-use Rattle.lent_refresh.specs.Parts.{firstNumber, maskNumber, partLights}
+use Rattle.refresh_parts.specs.Parts.{firstNumber, maskNumber, partLights}
 use Rattle.lent_refresh.proofs.Numbers.{looked, not-looked}
 use mathlib.Core.Path.{_≡_, refl, sym, ap, subst}
 use Prim.Native.Nat.{ℕ, _<_, _^_}
@@ -56,14 +56,14 @@ use Rattle.ff_state.proofs.state.FfState.Laws as St′
 use Rattle.lent_refresh.proofs.Fields.{keyVal, part, openVal, by-fields, IsState, IsKey, key-typed, lights-are, set-is, enabled-is, entries-are, count-is, lights-typed, set-typed, enabled-typed, entries-typed, count-typed, symOf, tysOf, St-name}
 use Rattle.lent_state.proofs.Rest.{behind, env, at-ref, fails}
 use Rattle.lent_refresh.proofs.Cell.{Shut, Wide, shut-in, unlock, lock}
-use Rattle.lent_refresh.proofs.number.first_number as first-tests
-use Rattle.lent_refresh.proofs.number.first_number.Symbol as first-tests-def
-use Rattle.lent_refresh.proofs.number.first_number.Symbol.{name as #first-tests}
-use Rattle.lent_refresh.proofs.number.first_number.Met as first-tests-thm
-use Rattle.lent_refresh.proofs.number.mask_number as mask
-use Rattle.lent_refresh.proofs.number.mask_number.Symbol as mask-def
-use Rattle.lent_refresh.proofs.number.mask_number.Symbol.{name as #mask}
-use Rattle.lent_refresh.proofs.number.mask_number.Met as mask-thm
+use Rattle.refresh_parts.proofs.first_number as first-tests
+use Rattle.refresh_parts.proofs.first_number.Symbol as first-tests-def
+use Rattle.refresh_parts.proofs.first_number.Symbol.{name as #first-tests}
+use Rattle.refresh_parts.proofs.first_number.Met as first-tests-thm
+use Rattle.refresh_parts.proofs.mask_number as mask
+use Rattle.refresh_parts.proofs.mask_number.Symbol as mask-def
+use Rattle.refresh_parts.proofs.mask_number.Symbol.{name as #mask}
+use Rattle.refresh_parts.proofs.mask_number.Met as mask-thm
 use Rattle.lent_refresh.proofs.number.refresh_number.Key.{name as #f}
 use Rattle.lent_refresh.proofs.number.refresh_number as f
 use Rattle.lent_refresh.proofs.number.refresh_number.Statement as stated
@@ -312,5 +312,5 @@ refresh-number-spec 𝓤 H 𝓜 𝓖 𝓡 =
     entered 𝓤 H (tripleOf 𝓤 H (𝓖 .A) f.signature (f.spec 𝓤 H (𝓖 .A) (𝓜 .mem) (𝓡 .run)))
     (tables 𝓤 H 𝓜 𝓡 code.env .C) (tables 𝓤 H 𝓜 𝓡 code.env .Λ) #f code.function (code.unfolded 𝓤 H 𝓜 𝓡)
     (meets 𝓤 H (𝓖 .A) (givenOf 𝓤 H 𝓜 𝓖) (𝓜 .mem) (𝓡 .run) (tablesOf 𝓤 H 𝓜 (tables 𝓤 H 𝓜 𝓡 code.env))
-    (cited 𝓤 H (First 𝓤 H (𝓖 .A) (𝓜 .mem) (𝓡 .run)) 𝓜 𝓡 code.env #first-tests first-tests-def.routine code.calls-lent-refresh·number·first-number (first-tests-thm.met 𝓤 H 𝓜 𝓖 𝓡))
-    (cited 𝓤 H (Mask 𝓤 H (𝓖 .A) (𝓜 .mem) (𝓡 .run)) 𝓜 𝓡 code.env #mask mask-def.routine code.calls-lent-refresh·number·mask-number (mask-thm.met 𝓤 H 𝓜 𝓖 𝓡)))
+    (cited 𝓤 H (First 𝓤 H (𝓖 .A) (𝓜 .mem) (𝓡 .run)) 𝓜 𝓡 code.env #first-tests first-tests-def.routine code.calls-refresh-parts·first-number (first-tests-thm.met 𝓤 H 𝓜 𝓖 𝓡))
+    (cited 𝓤 H (Mask 𝓤 H (𝓖 .A) (𝓜 .mem) (𝓡 .run)) 𝓜 𝓡 code.env #mask mask-def.routine code.calls-refresh-parts·mask-number (mask-thm.met 𝓤 H 𝓜 𝓖 𝓡)))

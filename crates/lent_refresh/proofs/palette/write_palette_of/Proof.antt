@@ -67,14 +67,14 @@ use Rattle.lent_refresh.proofs.Fields.{keyVal, part, openVal, by-fields
 use Rattle.lent_state.proofs.Rest.{behind, env, at-ref, holds, fails}
 use Rattle.lent_refresh.proofs.Again as Slices
 use Rattle.lent_refresh.proofs.Cell.{Shut, Wide, Mirror, shut-in, mirror-in, unlock, lock}
-use Rattle.lent_refresh.proofs.palette.palette_due as due
-use Rattle.lent_refresh.proofs.palette.palette_due.Symbol as due-def
-use Rattle.lent_refresh.proofs.palette.palette_due.Symbol.{name as #due}
-use Rattle.lent_refresh.proofs.palette.palette_due.Met as due-thm
-use Rattle.lent_refresh.proofs.palette.put_palette as writer
-use Rattle.lent_refresh.proofs.palette.put_palette.Symbol as writer-def
-use Rattle.lent_refresh.proofs.palette.put_palette.Symbol.{name as #writer}
-use Rattle.lent_refresh.proofs.palette.put_palette.Met as writer-thm
+use Rattle.refresh_parts.proofs.palette_due as due
+use Rattle.refresh_parts.proofs.palette_due.Symbol as due-def
+use Rattle.refresh_parts.proofs.palette_due.Symbol.{name as #due}
+use Rattle.refresh_parts.proofs.palette_due.Met as due-thm
+use Rattle.refresh_parts.proofs.put_palette as writer
+use Rattle.refresh_parts.proofs.put_palette.Symbol as writer-def
+use Rattle.refresh_parts.proofs.put_palette.Symbol.{name as #writer}
+use Rattle.refresh_parts.proofs.put_palette.Met as writer-thm
 use Rattle.lent_refresh.proofs.palette.write_palette_of.Key.{name as #f}
 use Rattle.lent_refresh.proofs.palette.write_palette_of as f
 use Rattle.lent_refresh.proofs.palette.write_palette_of.Statement as stated
@@ -361,5 +361,5 @@ write-palette-of-spec 𝓤 H 𝓜 𝓖 𝓡 =
     entered 𝓤 H (tripleOf 𝓤 H (𝓖 .A) f.signature (f.spec 𝓤 H (𝓖 .A) (𝓜 .mem) (𝓡 .run)))
     (tables 𝓤 H 𝓜 𝓡 code.env .C) (tables 𝓤 H 𝓜 𝓡 code.env .Λ) #f code.function (code.unfolded 𝓤 H 𝓜 𝓡)
     (meets 𝓤 H (𝓖 .A) (givenOf 𝓤 H 𝓜 𝓖) (𝓜 .mem) (𝓡 .run) (tablesOf 𝓤 H 𝓜 (tables 𝓤 H 𝓜 𝓡 code.env))
-    (cited 𝓤 H (Due 𝓤 H (𝓖 .A) (𝓜 .mem) (𝓡 .run)) 𝓜 𝓡 code.env #due due-def.routine code.calls-lent-refresh·palette·palette-due (due-thm.met 𝓤 H 𝓜 𝓖 𝓡))
-    (cited 𝓤 H (Writer 𝓤 H (𝓖 .A) (𝓜 .mem) (𝓡 .run)) 𝓜 𝓡 code.env #writer writer-def.routine code.calls-lent-refresh·palette·put-palette (writer-thm.met 𝓤 H 𝓜 𝓖 𝓡)))
+    (cited 𝓤 H (Due 𝓤 H (𝓖 .A) (𝓜 .mem) (𝓡 .run)) 𝓜 𝓡 code.env #due due-def.routine code.calls-refresh-parts·palette-due (due-thm.met 𝓤 H 𝓜 𝓖 𝓡))
+    (cited 𝓤 H (Writer 𝓤 H (𝓖 .A) (𝓜 .mem) (𝓡 .run)) 𝓜 𝓡 code.env #writer writer-def.routine code.calls-refresh-parts·put-palette (writer-thm.met 𝓤 H 𝓜 𝓖 𝓡)))

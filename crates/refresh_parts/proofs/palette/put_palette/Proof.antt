@@ -1,5 +1,5 @@
--- `lent_refresh::palette::put_palette` meets its contract: the rows fill the part that is lent, which is put back.
--- Assumes nothing.
+-- `refresh_parts::palette::put_palette` meets its contract: a key names at most 255 matrices, so 16 floats for each from 380 on lie in the mirror; the rows fill the part that is lent, which is
+-- put back in its place. Assumes nothing.
 use Prim.Native.Nat.{ℕ, _+_, _-_, _*_, _≤_}
 use native.Mathlib.Omega.{arith}
 use mathlib.Core.Path.{_≡_, refl, ap, _∙_}
@@ -8,11 +8,11 @@ use Rattle.codec.specs.Put.{put}
 use Rattle.codec.proofs.Put.{part-length, put-back}
 use Rattle.rows.specs.Rows.{floats}
 use Rattle.rows.specs.Matrices.{paletteRows}
-use Rattle.lent_refresh.proofs.Sizes.{palette-floats}
+use Rattle.refresh_parts.proofs.Sizes.{palette-floats}
 use Rattle.sections.proofs.Bounds.{matrices-most}
 use borrow.Author.Needs.{needs}
-use Rattle.lent_refresh.proofs.palette.put_palette.Statement.{statement}
-use Rattle.lent_refresh.proofs.palette.put_palette.Tie as tie
+use Rattle.refresh_parts.proofs.palette.put_palette.Statement.{statement}
+use Rattle.refresh_parts.proofs.palette.put_palette.Tie as tie
 
 -- at most 255 matrices
 most : (c : tie.After-palette-matrices) → c .palette-matrices .result ≤ 255

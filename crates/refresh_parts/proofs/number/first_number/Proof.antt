@@ -1,9 +1,9 @@
--- `lent_refresh::number::first_number` meets its contract: the three tests stand in document 01's order.
--- Assumes nothing.
+-- `refresh_parts::number::first_number` meets its contract: length, HAS_RHW and a mask of 0 are tested in document 01's order, and the tests that led to a return choose the same branch of
+-- `firstNumber`. Assumes nothing.
 use borrow.Author.Tests.{eq-eqb, ne-eqb}
-use Rattle.lent_refresh.specs.Parts.{firstNumber}
-use Rattle.lent_refresh.proofs.number.first_number.Statement.{statement}
-use Rattle.lent_refresh.proofs.number.first_number.Tie as tie
+use Rattle.refresh_parts.specs.Parts.{firstNumber}
+use Rattle.refresh_parts.proofs.number.first_number.Statement.{statement}
+use Rattle.refresh_parts.proofs.number.first_number.Tie as tie
 
 returns : tie.Need-returns
 unfolding firstNumber

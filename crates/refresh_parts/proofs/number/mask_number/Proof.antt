@@ -1,17 +1,17 @@
--- `lent_refresh::number::mask_number` meets its contract: the mask is compared with that of the lights that are packed.
--- Assumes nothing.
+-- `refresh_parts::number::mask_number` meets its contract: `active_of` lists the lights that are packed, and `low_bits` of how many they are is their mask, which both returns compare with the
+-- key's. Assumes nothing.
 use Prim.Native.Nat.{_≤_}
 use mathlib.Core.Path.{_≡_, sym, ap, subst, _∙_}
 use mathlib.Core.List.{List}
 use Rattle.d3d9_types.specs.declared.light.D3DLIGHT9.{D3DLIGHT9}
-use Rattle.lent_refresh.specs.Parts.{activeParts, maskNumber}
+use Rattle.refresh_parts.specs.Parts.{activeParts, maskNumber}
 use borrow.Author.Tests.{eq-eqb, ne-eqb}
 use borrow.Author.Needs.{needs}
 use Rattle.light_table.specs.Active.{listed, lowBits, masksOf}
 use Rattle.light_table.specs.declared.active.ActiveLights.{ActiveLights}
 use Rattle.light_table.proofs.Compaction.{listed-len}
-use Rattle.lent_refresh.proofs.number.mask_number.Statement.{statement}
-use Rattle.lent_refresh.proofs.number.mask_number.Tie as tie
+use Rattle.refresh_parts.proofs.number.mask_number.Statement.{statement}
+use Rattle.refresh_parts.proofs.number.mask_number.Tie as tie
 
 active-of-requires : tie.Need-active-of-requires
 active-of-requires c κs = search needs

@@ -1,9 +1,9 @@
--- `lent_refresh::lights::lights_due` meets its contract: the section's bit, and a mask that is not 0.
--- Assumes nothing.
+-- `refresh_parts::lights::lights_due` meets its contract: where the section's bit is set the answer is the second test, a mask that is not 0; where it is clear the answer is false whatever the
+-- mask is. Assumes nothing.
 use mathlib.Core.Path.{sym, _∙_}
 use borrow.Author.Needs.{needs}
-use Rattle.lent_refresh.proofs.lights.lights_due.Statement.{statement}
-use Rattle.lent_refresh.proofs.lights.lights_due.Tie as tie
+use Rattle.refresh_parts.proofs.lights.lights_due.Statement.{statement}
+use Rattle.refresh_parts.proofs.lights.lights_due.Tie as tie
 
 has-section-requires : tie.Need-has-section-requires
 has-section-requires c κs = search needs

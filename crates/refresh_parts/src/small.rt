@@ -4,7 +4,7 @@ ghost use lib.ListN.{length};
 ghost use Rattle.sections.specs.declared.sections.Section.the-variants.{Wv, Proj, Material};
 ghost use Rattle.rows.specs.Material.{materialRows};
 ghost use Rattle.rows.specs.Matrices.{projectionRows, worldViewRows};
-ghost use Rattle.lent_refresh.specs.Parts.{writtenRows, writtenSmall};
+ghost use Rattle.refresh_parts.specs.Parts.{writtenRows, writtenSmall};
 use d3d9_types::D3DMATERIAL9;
 use d3d9_types::D3DMATRIX;
 use matrix::mat_mul;

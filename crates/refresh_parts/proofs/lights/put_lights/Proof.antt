@@ -1,5 +1,5 @@
--- `lent_refresh::lights::put_lights` meets its contract: the rows fill the part that is lent, which is put back.
--- Assumes nothing.
+-- `refresh_parts::lights::put_lights` meets its contract: the list has at most eight lights, so 24 floats for each from 60 on lie in the mirror; the rows fill the part that is lent, which is
+-- put back in its place. Assumes nothing.
 use Prim.Native.Nat.{ℕ, _+_, _-_, _*_, _≤_}
 use native.Mathlib.Omega.{arith}
 use mathlib.Core.Path.{_≡_, refl, sym, ap, subst, _∙_}
@@ -12,11 +12,11 @@ use Rattle.light_table.specs.declared.active.ActiveLights.{ActiveLights}
 use Rattle.light_table.proofs.Compaction.{listed-len, listed-front}
 use Rattle.rows.specs.Rows.{floats}
 use Rattle.light_rows.specs.Light.{lightsRows}
-use Rattle.lent_refresh.specs.Parts.{activeParts}
-use Rattle.lent_refresh.proofs.Sizes.{lights-floats}
+use Rattle.refresh_parts.specs.Parts.{activeParts}
+use Rattle.refresh_parts.proofs.Sizes.{lights-floats}
 use borrow.Author.Needs.{needs}
-use Rattle.lent_refresh.proofs.lights.put_lights.Statement.{statement}
-use Rattle.lent_refresh.proofs.lights.put_lights.Tie as tie
+use Rattle.refresh_parts.proofs.lights.put_lights.Statement.{statement}
+use Rattle.refresh_parts.proofs.lights.put_lights.Tie as tie
 
 -- the resolved list: at most eight lights, which stand in front
 few : (c : tie.After-active-of) → c .active-of .result .len ≤ 8

@@ -1,5 +1,5 @@
--- `lent_refresh::small::write_colors` meets its contract: the rows fill the part that is lent, which is put back.
--- Assumes nothing.
+-- `refresh_parts::small::write_colors` meets its contract: the material's rows are as many as its section has, so they fill the part that is lent, which is put back in its place; where the bit
+-- is clear nothing is written. Assumes nothing.
 use Prim.Native.Nat.{ℕ, _+_, _-_, _*_}
 use native.Mathlib.Omega.{arith}
 use mathlib.Core.Path.{_≡_, refl, sym, ap, _∙_}
@@ -10,10 +10,10 @@ use Rattle.rows.proofs.Floats.{length-floats}
 use Rattle.sections.specs.Counts.{materialCount}
 use Rattle.sections.proofs.Bounds.{material-most}
 use Rattle.packing.proofs.Lengths.{material-rows}
-use Rattle.lent_refresh.specs.Parts.{writtenRows}
+use Rattle.refresh_parts.specs.Parts.{writtenRows}
 use borrow.Author.Needs.{needs}
-use Rattle.lent_refresh.proofs.small.write_colors.Statement.{statement}
-use Rattle.lent_refresh.proofs.small.write_colors.Tie as tie
+use Rattle.refresh_parts.proofs.small.write_colors.Statement.{statement}
+use Rattle.refresh_parts.proofs.small.write_colors.Tie as tie
 
 -- the rows of the material are as many as its section has
 counted : (c : tie.After-material-section-rows) → length (materialRows (c .before .before .before .before .args .key .«lighting_enabled») (c .before .before .before .before .args .key .«specular_enable») (c .before .before .before .before .args .material)) ≡ c .material-section-rows .result
