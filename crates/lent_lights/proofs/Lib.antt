@@ -1,2 +1,3 @@
+pub mod Handed
 pub mod Numbers
 pub mod Stored

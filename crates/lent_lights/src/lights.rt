@@ -1,12 +1,14 @@
 // Lights by any index. A light goes into its slot in place; any other call is the one by value, on a
-// copy of the state that is stored back whole.
+// copy of the state that is stored back whole. Both names hand that to one function, so that their own
+// frames stay small.
 ghost use mathlib.Core.Path.{_≡_};
 ghost use mathlib.Core.Bool.{not};
 ghost use lib.Dec.{eqb};
 ghost use Rattle.ff_state.specs.Lights.{setLightAt, setLightEnabledAt, lightNumber};
-ghost use Rattle.lent_lights.specs.Calls.{numbered, ffStateSetLightAt, ffStateSetLightEnabledAt, ffStateVsSourceLightInputs};
+ghost use Rattle.lent_lights.specs.Calls.{numbered, setOrEnable, ffStateSetOrEnable, ffStateSetLightAt, ffStateSetLightEnabledAt, ffStateVsSourceLightInputs};
 use crate::slots::store_slot;
 use d3d9_types::D3DLIGHT9;
+use d3d9_types::default_light;
 use ff_lights::set_light_at;
 use ff_lights::set_light_enabled_at;
 use ff_lights::vs_source_light_inputs;
@@ -48,6 +50,24 @@ fn enable_light(s: FfState, index: u32, enabled: u32) -> Numbered
     Numbered { number, state }
 }
 
+// Sets the light, or, where `set` is 0, enables by the number `on`.
+fn set_or_enable(s: FfState, index: u32, light: D3DLIGHT9, set: u32, on: u32) -> Numbered
+    ensures { λ r. ⌜ r ≡ numbered (setOrEnable s index light set on) ⌝ }
+{
+    if set == 0 {
+        return enable_light(s, index, on);
+    }
+    set_light(s, index, light)
+}
+
+pub fn by_value(s: &mut FfState, index: u32, light: D3DLIGHT9, set: u32, on: u32) -> u32
+    ensures { λ r. ⌜ (r, now (s .exit)) ≡ ffStateSetOrEnable (now (s .entry)) index light set on ⌝ }
+{
+    let c = set_or_enable(*s, index, light, set, on);
+    *s = c.state;
+    c.number
+}
+
 // 0, or 3 where 56 other lights from index 8 on are stored.
 #[no_mangle]
 pub extern "C" fn ff_state_set_light_at(s: &mut FfState, index: u32, light: &D3DLIGHT9) -> u32
@@ -57,9 +77,7 @@ pub extern "C" fn ff_state_set_light_at(s: &mut FfState, index: u32, light: &D3D
         store_slot(s, index, *light);
         return 0;
     }
-    let c = set_light(*s, index, *light);
-    *s = c.state;
-    c.number
+    by_value(s, index, *light, 1, 0)
 }
 
 // 0, or 3 as above. Any number but 0 enables.
@@ -67,9 +85,7 @@ pub extern "C" fn ff_state_set_light_at(s: &mut FfState, index: u32, light: &D3D
 pub extern "C" fn ff_state_set_light_enabled_at(s: &mut FfState, index: u32, enabled: u32) -> u32
     ensures { λ r. ⌜ (r, now (s .exit)) ≡ ffStateSetLightEnabledAt (now (s .entry)) index enabled ⌝ }
 {
-    let c = enable_light(*s, index, enabled);
-    *s = c.state;
-    c.number
+    by_value(s, index, default_light(), 0, enabled)
 }
 
 // 0; what a key is made from goes to `out`.
