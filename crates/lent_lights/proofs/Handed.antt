@@ -34,6 +34,8 @@ use Rattle.ff_state.specs.declared.state.FfState.{FfState}
 use Rattle.ff_state.proofs.state.FfState as St
 use Rattle.lent_lights.proofs.Stored.{IsLight}
 use Rattle.lent_lights.proofs.slots.store_slot as slot
+use Rattle.lent_lights.proofs.slots.define_slot as define
+use Rattle.lent_lights.proofs.slots.enable_slot as enable
 use Rattle.lent_lights.proofs.lights.by_value as far
 
 -- a reference to a state that lies at (b, o), under the name δ
@@ -55,6 +57,38 @@ module _ {M : Type 1} (𝓤 : URA M) (H : Heap 𝓤) (A : Atoms 𝓤) (W : Given
   goes-slot lt n-fits m-is =
       qed W (‵ (flft α fullShare) ∷ ‵ (MutRef (named 0) α St.the-row .own (at-ref b o δ s) (vptr b o ∷ [])) ∷ []) ∵ says ! lt $ nothing ! $ move ! (1 ∷ 0 ∷ []) $ join ! $ frame ! $
       nothing ! $ owned ! Lt.the-row (Is Lt.the-row) (LL.makes Lt.the-type Lt′.the-plain 𝓤 H A) m _ m-is $ fjoin ! $ owned ! u32 (Is u32) (uint-makes 𝓤 H A W w32) n _ (refl, n-fits) $ fjoin ! $ move ! (1 ∷ 0 ∷ []) $ fjoin ! $ done !
+
+-- ---- a light in a slot where none is
+
+abbrev pub Define : {M : Type 1} (𝓤 : URA M) (H : Heap 𝓤) (A : Atoms 𝓤) (mem : Memory → SProp 𝓤) (run : Routine → Fun 𝓤) → Contract 𝓤
+Define 𝓤 H A mem run = tripleOf 𝓤 H A define.signature (define.spec 𝓤 H A mem run)
+
+module _ {M : Type 1} (𝓤 : URA M) (H : Heap 𝓤) (A : Atoms 𝓤) (at-mem : Memory → SProp 𝓤) (run : Routine → Fun 𝓤) (b o : ℕ) (α : Lft) (δ : GName) (s : FfState) (n : ℕ) where
+  abbrev pub to-define : Define 𝓤 H A at-mem run .Ghost
+  to-define = (((α, tt), (fullShare, tt), tt, (at-ref b o δ s, (n, tt)), (vptr b o ∷ [], (vint w32 n ∷ [], tt))), tt)
+
+module _ {M : Type 1} (𝓤 : URA M) (H : Heap 𝓤) (A : Atoms 𝓤) (W : Given 𝓤 H A) (at-mem : Memory → SProp 𝓤) (run : Routine → Fun 𝓤) (b o : ℕ) (α : Lft) (δ : GName) (s : FfState) (n : ℕ) where
+  pub goes-define : n < 8 → n < 2 ^ 32
+      → ent 𝓤 (sep 𝓤 (A .lft α fullShare) (sem 𝓤 H A (MutRef (named 0) α St.the-row .own (at-ref b o δ s) (vptr b o ∷ [])))) (Define 𝓤 H A at-mem run .pre (to-define 𝓤 H A at-mem run b o α δ s n))
+  goes-define lt n-fits =
+      qed W (‵ (flft α fullShare) ∷ ‵ (MutRef (named 0) α St.the-row .own (at-ref b o δ s) (vptr b o ∷ [])) ∷ []) ∵ says ! lt $ nothing ! $ move ! (1 ∷ 0 ∷ []) $ join ! $ frame ! $
+      nothing ! $ owned ! u32 (Is u32) (uint-makes 𝓤 H A W w32) n _ (refl, n-fits) $ fjoin ! $ move ! (1 ∷ 0 ∷ []) $ fjoin ! $ done !
+
+-- ---- a slot enabled
+
+abbrev pub Enable : {M : Type 1} (𝓤 : URA M) (H : Heap 𝓤) (A : Atoms 𝓤) (mem : Memory → SProp 𝓤) (run : Routine → Fun 𝓤) → Contract 𝓤
+Enable 𝓤 H A mem run = tripleOf 𝓤 H A enable.signature (enable.spec 𝓤 H A mem run)
+
+module _ {M : Type 1} (𝓤 : URA M) (H : Heap 𝓤) (A : Atoms 𝓤) (at-mem : Memory → SProp 𝓤) (run : Routine → Fun 𝓤) (b o : ℕ) (α : Lft) (δ : GName) (s : FfState) (n on : ℕ) where
+  abbrev pub to-enable : Enable 𝓤 H A at-mem run .Ghost
+  to-enable = (((α, tt), (fullShare, tt), tt, (at-ref b o δ s, (n, (on, tt))), (vptr b o ∷ [], (vint w32 n ∷ [], (vint w32 on ∷ [], tt)))), tt)
+
+module _ {M : Type 1} (𝓤 : URA M) (H : Heap 𝓤) (A : Atoms 𝓤) (W : Given 𝓤 H A) (at-mem : Memory → SProp 𝓤) (run : Routine → Fun 𝓤) (b o : ℕ) (α : Lft) (δ : GName) (s : FfState) (n on : ℕ) where
+  pub goes-enable : n < 8 → n < 2 ^ 32 → on < 2 ^ 32
+      → ent 𝓤 (sep 𝓤 (A .lft α fullShare) (sem 𝓤 H A (MutRef (named 0) α St.the-row .own (at-ref b o δ s) (vptr b o ∷ [])))) (Enable 𝓤 H A at-mem run .pre (to-enable 𝓤 H A at-mem run b o α δ s n on))
+  goes-enable lt n-fits on-fits =
+      qed W (‵ (flft α fullShare) ∷ ‵ (MutRef (named 0) α St.the-row .own (at-ref b o δ s) (vptr b o ∷ [])) ∷ []) ∵ says ! lt $ nothing ! $ move ! (1 ∷ 0 ∷ []) $ join ! $ frame ! $
+      nothing ! $ owned ! u32 (Is u32) (uint-makes 𝓤 H A W w32) on _ (refl, on-fits) $ fjoin ! $ owned ! u32 (Is u32) (uint-makes 𝓤 H A W w32) n _ (refl, n-fits) $ fjoin ! $ move ! (1 ∷ 0 ∷ []) $ fjoin ! $ done !
 
 -- ---- the call by value
 

@@ -6,6 +6,7 @@ ghost use mathlib.Core.Bool.{not};
 ghost use lib.Dec.{eqb};
 ghost use Rattle.ff_state.specs.Lights.{setLightAt, setLightEnabledAt, lightNumber};
 ghost use Rattle.lent_lights.specs.Calls.{numbered, setOrEnable, ffStateSetOrEnable, ffStateSetLightAt, ffStateSetLightEnabledAt, ffStateVsSourceLightInputs};
+use crate::slots::enable_slot;
 use crate::slots::store_slot;
 use d3d9_types::D3DLIGHT9;
 use d3d9_types::default_light;
@@ -85,6 +86,10 @@ pub extern "C" fn ff_state_set_light_at(s: &mut FfState, index: u32, light: &D3D
 pub extern "C" fn ff_state_set_light_enabled_at(s: &mut FfState, index: u32, enabled: u32) -> u32
     ensures { λ r. ⌜ (r, now (s .exit)) ≡ ffStateSetLightEnabledAt (now (s .entry)) index enabled ⌝ }
 {
+    if index < 8 {
+        enable_slot(s, index, enabled);
+        return 0;
+    }
     by_value(s, index, default_light(), 0, enabled)
 }
 
