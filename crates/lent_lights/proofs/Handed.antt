@@ -36,7 +36,7 @@ use Rattle.lent_lights.proofs.Stored.{IsLight}
 use Rattle.lent_lights.proofs.slots.store_slot as slot
 use Rattle.lent_lights.proofs.slots.define_slot as define
 use Rattle.lent_lights.proofs.slots.enable_slot as enable
-use Rattle.lent_lights.proofs.lights.by_value as far
+use Rattle.lent_lights.proofs.table.change_table as far
 
 -- a reference to a state that lies at (b, o), under the name δ
 abbrev pub at-ref : ℕ → ℕ → GName → FfState → RefT FfState
@@ -90,7 +90,7 @@ module _ {M : Type 1} (𝓤 : URA M) (H : Heap 𝓤) (A : Atoms 𝓤) (W : Given
       qed W (‵ (flft α fullShare) ∷ ‵ (MutRef (named 0) α St.the-row .own (at-ref b o δ s) (vptr b o ∷ [])) ∷ []) ∵ says ! lt $ nothing ! $ move ! (1 ∷ 0 ∷ []) $ join ! $ frame ! $
       nothing ! $ owned ! u32 (Is u32) (uint-makes 𝓤 H A W w32) on _ (refl, on-fits) $ fjoin ! $ owned ! u32 (Is u32) (uint-makes 𝓤 H A W w32) n _ (refl, n-fits) $ fjoin ! $ move ! (1 ∷ 0 ∷ []) $ fjoin ! $ done !
 
--- ---- the call by value
+-- ---- the table changed
 
 abbrev pub Far : {M : Type 1} (𝓤 : URA M) (H : Heap 𝓤) (A : Atoms 𝓤) (mem : Memory → SProp 𝓤) (run : Routine → Fun 𝓤) → Contract 𝓤
 Far 𝓤 H A mem run = tripleOf 𝓤 H A far.signature (far.spec 𝓤 H A mem run)

@@ -1,3 +1,3 @@
+pub mod Entries
 pub mod Handed
-pub mod Numbers
 pub mod Stored

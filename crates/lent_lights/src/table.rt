@@ -1,0 +1,94 @@
+// The lights from index 8 on of a lent state. The entries and their count are taken out, changed by
+// value and put back: one function for both calls, so that their own frames stay small.
+ghost use mathlib.Core.Path.{_≡_};
+ghost use Rattle.ff_state.specs.declared.state.FfState.{FfState};
+ghost use Rattle.lent_lights.specs.Table.{changedEntry, withTable, tableLeft, ffStateChangeTable};
+use d3d9_types::D3DLIGHT9;
+use ff_state::FfState;
+use light_table::OverflowLight;
+use light_table::find;
+use light_table::inserted_at;
+use light_table::used_count;
+
+// What a call leaves: the entries, how many are in use, the bits to mark, and the answer's number.
+pub struct Table {
+    pub entries: [OverflowLight; 56],
+    pub count: u16,
+    pub bits: u8,
+    pub number: u32,
+}
+
+// A stored entry with another light, or, where `set` is 0, with another enable.
+fn changed_entry(e: OverflowLight, light: D3DLIGHT9, set: u32, enabled: u32) -> OverflowLight
+    ensures { λ r. ⌜ r ≡ changedEntry light set enabled e ⌝ }
+{
+    let mut changed = e;
+    if set == 0 {
+        changed.enabled = enabled;
+        return changed;
+    }
+    changed.light = light;
+    changed
+}
+
+// Any number `on` but 0 enables. A light that is not stored is made, of `light`.
+pub fn changed_table(
+    entries: [OverflowLight; 56],
+    count: u16,
+    index: u32,
+    light: D3DLIGHT9,
+    set: u32,
+    on: u32,
+) -> Table
+    ensures { λ r. ⌜ ((s : FfState) → (r .number, tableLeft s r) ≡ ffStateChangeTable (withTable s entries count) index light set on) ⌝ }
+{
+    let used = used_count(count);
+    let found = find(entries, used, index);
+    let at = found.at;
+    let enabled = (on != 0) as u32;
+    if found.stored {
+        let mut out = entries;
+        let e = changed_entry(entries[at], light, set, enabled);
+        out[at] = e;
+        return Table {
+            entries: out,
+            count,
+            bits: 8,
+            number: 0,
+        };
+    }
+    if used < 56 {
+        if at < 56 {
+            return Table {
+                entries: inserted_at(
+                    entries,
+                    at,
+                    OverflowLight {
+                        index,
+                        enabled,
+                        light,
+                    },
+                ),
+                count: (used + 1) as u16,
+                bits: 8,
+                number: 0,
+            };
+        }
+    }
+    Table {
+        entries,
+        count,
+        bits: 0,
+        number: 3,
+    }
+}
+
+pub fn change_table(s: &mut FfState, index: u32, light: D3DLIGHT9, set: u32, on: u32) -> u32
+    ensures { λ r. ⌜ (r, now (s .exit)) ≡ ffStateChangeTable (now (s .entry)) index light set on ⌝ }
+{
+    let t = changed_table(s.overflow_lights, s.overflow_count, index, light, set, on);
+    s.overflow_lights = t.entries;
+    s.overflow_count = t.count;
+    s.ff_vs_dirty = s.ff_vs_dirty | t.bits;
+    t.number
+}
