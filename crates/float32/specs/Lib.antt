@@ -1,3 +1,4 @@
 pub mod Larger
 pub mod Root
+pub mod Steps
 pub mod Cosine

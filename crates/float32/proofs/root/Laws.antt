@@ -17,12 +17,12 @@ use lib.Ieee.Positive.{first-pos}
 use mathlib.Core.Bool.{_&&_}
 use Rattle.float32.specs.Root.{nearestRoot, rootOf, sqrtOf, inUnits, unsigned, NearestRoot}
 use Rattle.float32.proofs.root.Squares.{nearest-near, nearest-bounds}
-use Rattle.float32.proofs.root.Values.{cut, value-unique, made-fits, root-of-value, root-moved}
+use Rattle.float32.proofs.root.Values.{cut, value-unique, made-fits, root-of-value, root-scaled}
 use Rattle.float32.proofs.root.Gaps.{gap-below, gap-above, square-mono, twice-square}
 
 -- ---- a value that fits is a number of at most 24 digits, moved up
 
-record Shape (x : Float) : Type 0 where
+pub record Shape (x : Float) : Type 0 where
   pub m : ℕ
   pub j : ℕ
   pub is : inUnits x ≡ m * 2 ^ j
@@ -41,7 +41,7 @@ whole (negsuc k) h =
 abbrev and2 : Bool → Bool → Bool
 and2 a b = a && b
 
-shape : (x : Float) → T (fits binary32 x) → T (unsigned x) → Shape x
+pub shape : (x : Float) → T (fits binary32 x) → T (unsigned x) → Shape x
 unfolding inUnits fits
 shape nan f u = absurd u
 shape (inf s) f u = absurd u
@@ -80,7 +80,7 @@ shape (fin false (suc m) e) f u =
       value = (refl, n ∙ ap (λ (x : ℕ). x * down e) (sym z));
     }
 
-units-of-value : (x : Float) (a : ℕ) → HasValue x false a (2 ^ 149) → inUnits x ≡ a
+pub units-of-value : (x : Float) (a : ℕ) → HasValue x false a (2 ^ 149) → inUnits x ≡ a
 unfolding inUnits
 units-of-value nan a h = absurd h
 units-of-value (inf s) a h = absurd h
@@ -155,17 +155,18 @@ rooted x f u p =
     not-le-of-lt (mul-lt-mul-of-pos-right (s₀ .small) (pow-pos 149))
     (le-trans (lit≤ {m = 2 ^ 277 * 2 ^ 149} {n = 2 ^ 46 * (2 ^ 201 * 2 ^ 201)} tt)
     (le-trans (mul-le-mul n46 (mul-le-mul (pow-mono g) (pow-mono g))) (le-of-eq (sym square)))))) in
+    let n48 : n < 2 ^ 48 = lt-of-lt-of-le (mul-lt-mul-of-pos-right (fl .3) (pow-pos w)) (mul-le-mul-left (2 ^ 24) (pow-mono w24)) in
     record {
       n = n;
       k = k;
       square = square;
       n46 = n46;
-      n48 = lt-of-lt-of-le (mul-lt-mul-of-pos-right (fl .3) (pow-pos w)) (mul-le-mul-left (2 ^ 24) (pow-mono w24));
+      n48 = n48;
       far = far;
       is =
           root-of-value x (inUnits x) (s₀ .value) p
-          ∙ ap rootOf moved
-          ∙ root-moved q w s k (fl .2) (fl .3) even refl;
+          ∙ ap rootOf square
+          ∙ root-scaled n k n46 n48;
     }
 
 -- ---- the laws, for an operand above zero

@@ -1,7 +1,7 @@
 -- The whole-number root: `floorRoot n` is the one r with r * r ≤ n < (r + 1) * (r + 1), and `nearestRoot n` is r or r + 1 by which side of r + 1/2 the root lies.
 -- Assumes nothing.
 use Prim.Native.Nat.{ℕ, zero, suc, _+_, _-_, _*_, _^_, _≤_, _<_, zero-le}
-use native.Mathlib.Nat.{le-of-lt, le-antisymm, lt-of-le-of-lt, le-of-suc-le-suc, lt-of-not-le, not-le-of-lt, mul-le-mul, mul-add, add-mul, mul-comm, mul-assoc, mul-left-comm, add-assoc, add-comm, add-left-comm, two-pow-succ}
+use native.Mathlib.Nat.{le-of-lt, le-antisymm, lt-of-le-of-lt, le-of-suc-le-suc, lt-of-not-le, not-le-of-lt, mul-le-mul, mul-add, add-mul, mul-comm, mul-assoc, mul-left-comm, mul-suc, suc-mul, add-assoc, add-comm, add-left-comm, two-pow-succ}
 use native.Mathlib.Omega.{arith}
 use native.Mathlib.Numerals.{add-one}
 use mathlib.Core.Path.{_≡_, refl, sym, ap, subst, _∙_}
@@ -39,6 +39,9 @@ root-from (suc k) n r lo hi =
 pub floor-root : (n : ℕ) → n < 2 ^ 48 → IsRoot n (floorRoot n)
 unfolding floorRoot
 floor-root n h = root-from 24 n 0 zero-le h
+
+pub next-square : (r : ℕ) → suc r * suc r ≡ r * r + 2 * r + 1
+next-square r = suc-mul r (suc r) ∙ ap (λ (x : ℕ). x + suc r) (mul-suc r r) ∙ (let e : r * r + r + suc r ≡ r * r + 2 * r + 1 = omega arith in e)
 
 -- (2 * r + 1) ^ 2, the square of a midpoint, doubled
 pub odd-square : (r : ℕ) → (2 * r + 1) * (2 * r + 1) ≡ 4 * (r * r) + 4 * r + 1

@@ -1,21 +1,20 @@
 -- A finite float as a count of the format's least value, 2 ^ -149: what its bits, its root and the float made of a count are in terms of the count.
 -- `HasValue x false a (2 ^ 149)` says that x is a of these units, with the sign clear. Assumes nothing.
 use Prim.Native.Nat.{ℕ, zero, suc, _+_, _-_, _*_, _/_, _%_, _^_, _≤_, _<_}
-use native.Mathlib.Nat.{le-refl, le-trans, le-of-eq, le-of-lt, le-antisymm, lt-of-lt-of-le, lt-of-le-of-lt, lt-of-not-le, lt-irrefl, eq-or-lt-of-le, zero-add, zero-mul, mul-one, mul-assoc, mul-right-comm, mul-pos, mul-le-mul-right, mul-div-cancel, mod-eq-of-lt}
+use native.Mathlib.Nat.{le-refl, le-trans, le-of-eq, le-antisymm, lt-of-lt-of-le, lt-of-le-of-lt, lt-of-not-le, lt-irrefl, eq-or-lt-of-le, eq-zero-or-pos, suc-add, zero-add, zero-mul, mul-one, mul-assoc, mul-right-comm, mul-pos, mul-le-mul-right, mul-div-cancel, mod-eq-of-lt}
 use native.Mathlib.Omega.{arith}
 use mathlib.Core.Path.{_≡_, refl, sym, ap, subst, _∙_}
-use mathlib.Core.Bool.{true, false, cond}
-use mathlib.Core.Logic.{_⊎_, inl, inr, ⊎-elim}
+use mathlib.Core.Bool.{false}
+use mathlib.Core.Logic.{⊎-elim}
 use lib.IntN.{ℤ}
-use lib.Dec.{T, eqb, lit<}
+use lib.Dec.{T, lit<}
 use lib.Pow.{pow-add, pow-mono, pow-pos, shl-lt, shl-shr}
 use lib.Ieee.{Float, nan, inf, fin, binary32, up, down, size, odd, fits, ofBits, ofFields, toBits}
 use lib.Ieee.Fits.{odd-fits, down-pos}
 use lib.Ieee.Bits.{ofBits-toBits}
 use lib.Ieee.Digits.{size-lt, size-le}
 use lib.Ieee.Exact.{HasValue, odd-sign}
-use borrow.Author.Tests.{lt-leb, le-leb, ne-eqb}
-use Rattle.lemmas.proofs.Branch.{branch}
+use borrow.Author.Tests.{lt-leb, ne-eqb}
 use Rattle.float32.specs.Root.{nearestRoot, rootOf, sqrtOf}
 
 -- ---- the count, as `toBits` and `sqrtOf` compute it
@@ -50,14 +49,16 @@ size-is n j h k =
     le-antisymm (size-le n (suc j) k)
     (lt-of-not-le (λ (g : size n ≤ j). lt-irrefl n (lt-of-lt-of-le (size-lt n) (le-trans (pow-mono g) h))))
 
--- a number of 24 digits, moved up by k
+-- a number of d + 1 digits, moved up by k
+size-scaled : (d n k : ℕ) → 2 ^ d ≤ n → n < 2 ^ suc d → size (n * 2 ^ k) ≡ suc d + k
+size-scaled d n k h l =
+    size-is (n * 2 ^ k) (d + k)
+    (le-trans (le-of-eq (pow-add 2 d k)) (mul-le-mul-right (2 ^ k) h))
+    (subst (λ (j : ℕ). n * 2 ^ k < 2 ^ j) (suc-add d k) (shl-lt (suc d) k l))
+    ∙ sym (suc-add d k)
+
 pub size-moved : (q k : ℕ) → 2 ^ 23 ≤ q → q < 2 ^ 24 → size (q * 2 ^ k) ≡ 24 + k
-size-moved q k h l =
-    let s : suc (23 + k) ≡ 24 + k = omega arith in
-    size-is (q * 2 ^ k) (23 + k)
-    (le-trans (le-of-eq (pow-add 2 23 k)) (mul-le-mul-right (2 ^ k) h))
-    (subst (λ (j : ℕ). q * 2 ^ k < 2 ^ j) (sym s) (shl-lt 24 k l))
-    ∙ s
+size-moved q k = size-scaled 23 q k
 
 -- ---- the float with the exponent field k + 1 and the significand r, carried where r is 2 ^ 24
 
@@ -110,7 +111,7 @@ normal-value b x h f =
 
 -- ---- the root, from the count
 
-no-count : (e : ℤ) (a : ℕ) → zero * up e * 2 ^ 149 ≡ a * down e → 0 < a → ⊥
+pub no-count : (e : ℤ) (a : ℕ) → zero * up e * 2 ^ 149 ≡ a * down e → 0 < a → ⊥
 no-count e a h p = lt-irrefl 0 (subst (λ (x : ℕ). 0 < x) (sym h ∙ ap (λ (x : ℕ). x * 2 ^ 149) (zero-mul (up e)) ∙ zero-mul (2 ^ 149)) (mul-pos p (down-pos e)))
 
 pub root-of-value : (x : Float) (a : ℕ) → HasValue x false a (2 ^ 149) → 0 < a → sqrtOf x ≡ rootOf (a * 2 ^ 149)
@@ -120,61 +121,17 @@ root-of-value (inf s) a h p = absurd h
 root-of-value (fin t zero e) a h p = absurd (no-count e a (h .1) p)
 root-of-value (fin t (suc m) e) a h p = rw (h .0, cut-twice (suc m) e a (h .1))
 
--- ---- special operands, by their bits
-
-nan-of-value : (x : Float) (a : ℕ) → HasValue x true a (2 ^ 149) → 0 < a → sqrtOf x ≡ nan
-unfolding sqrtOf
-nan-of-value nan a h p = refl
-nan-of-value (inf s) a h p = absurd h
-nan-of-value (fin t zero e) a h p = absurd (no-count e a (h .1) p)
-nan-of-value (fin t (suc m) e) a h p = rw (h .0)
-
-nan-of-fields : (f t : ℕ) → (0 < f) ⊎ (0 < t) → sqrtOf (ofFields binary32 true f t) ≡ nan
-unfolding ofFields
-nan-of-fields zero t p =
-    let q : 0 < t = ⊎-elim (λ (w : 0 < 0). absurd (lt-irrefl 0 w)) (λ (w : 0 < t). w) p in
-    nan-of-value (odd 24 true t 0 149) (t * 2 ^ 0) (odd-sign 24 true t 0 149) (mul-pos q (pow-pos 0))
-nan-of-fields (suc x) t p =
-    branch (λ (y : Float). sqrtOf y ≡ nan) (eqb (suc x) 255) (cond (eqb t 0) (inf true) nan) (odd 24 true (2 ^ 23 + t) x 149)
-    (λ (e : eqb (suc x) 255 ≡ true). branch (λ (y : Float). sqrtOf y ≡ nan) (eqb t 0) (inf true) nan (λ (z : eqb t 0 ≡ true). unfold sqrtOf in refl) (λ (z : eqb t 0 ≡ false). unfold sqrtOf in refl))
-    (λ (e : eqb (suc x) 255 ≡ false). nan-of-value (odd 24 true (2 ^ 23 + t) x 149) ((2 ^ 23 + t) * 2 ^ x) (odd-sign 24 true (2 ^ 23 + t) x 149) (mul-pos (omega arith) (pow-pos x)))
-
-pub root-of-negative : (b : ℕ) → 2 ^ 31 < b → b < 2 ^ 32 → sqrtOf (ofBits binary32 b) ≡ nan
-unfolding ofBits
-root-of-negative b h k =
-    let some : (0 < b % 2 ^ 31 / 2 ^ 23) ⊎ (0 < b % 2 ^ 23) = nonzero (b % 2 ^ 31 / 2 ^ 23) (b % 2 ^ 23) (omega arith) in
-    rw (le-leb (2 ^ 31) b (le-of-lt h)) (nan-of-fields (b % 2 ^ 31 / 2 ^ 23) (b % 2 ^ 23) some)
-  where
-    nonzero : (x y : ℕ) → 0 < x + y → (0 < x) ⊎ (0 < y)
-    nonzero zero y p = inr (omega arith)
-    nonzero (suc x) y p = inl (omega arith)
-
-pub root-of-infinite : (b : ℕ) → 0x7F80_0000 ≤ b → b < 2 ^ 31 → sqrtOf (ofBits binary32 b) ≡ ofBits binary32 b
-unfolding ofFields
-root-of-infinite b h k =
-    let f : b / 2 ^ 23 ≡ 255 = omega arith in
-    let t : ℕ = b % 2 ^ 23 in
-    let p : ofBits binary32 b ≡ cond (eqb t 0) (inf false) nan = fields b k ∙ rw f in
-    rw p (branch (λ (y : Float). sqrtOf y ≡ y) (eqb t 0) (inf false) nan (λ (z : eqb t 0 ≡ true). unfold sqrtOf in refl) (λ (z : eqb t 0 ≡ false). unfold sqrtOf in refl))
-
-pub root-of-zero : (b : ℕ) → b % 2 ^ 31 ≡ 0 → b < 2 ^ 32 → sqrtOf (ofBits binary32 b) ≡ ofBits binary32 b
-root-of-zero b z h = ⊎-elim positive negative (either b z h)
-  where
-    either : (n : ℕ) → n % 2 ^ 31 ≡ 0 → n < 2 ^ 32 → (n ≡ 0) ⊎ (n ≡ 2 ^ 31)
-    either zero e l = inl refl
-    either (suc n) e l = inr (omega arith)
-
-    positive : b ≡ 0 → sqrtOf (ofBits binary32 b) ≡ ofBits binary32 b
-    positive e = rw e (unfold sqrtOf ofBits in refl)
-
-    negative : b ≡ 2 ^ 31 → sqrtOf (ofBits binary32 b) ≡ ofBits binary32 b
-    negative e = rw e (unfold sqrtOf ofBits in refl)
-
 -- an even number of digits moved out of the operand is half as many moved into the root
-pub root-moved : (q w s k : ℕ) → 2 ^ 23 ≤ q → q < 2 ^ 24 → s ≡ w + (k + k) → (s - 23) / 2 ≡ k → rootOf (q * 2 ^ s) ≡ odd 25 false (nearestRoot (q * 2 ^ w)) k 149
+pub root-scaled : (n k : ℕ) → 2 ^ 46 ≤ n → n < 2 ^ 48 → rootOf (n * (2 ^ k * 2 ^ k)) ≡ odd 25 false (nearestRoot n) k 149
 unfolding rootOf
-root-moved q w s k low high e d =
-    let z : (size (q * 2 ^ s) - 47) / 2 ≡ k = rw (size-moved q s low high) (omega arith) in
-    let p : q * 2 ^ s ≡ q * 2 ^ w * (2 ^ k * 2 ^ k) =
-    ap (λ (j : ℕ). q * 2 ^ j) e ∙ ap (λ (x : ℕ). q * x) (pow-add 2 w (k + k) ∙ ap (λ (x : ℕ). 2 ^ w * x) (pow-add 2 k k)) ∙ sym (mul-assoc q (2 ^ w) (2 ^ k * 2 ^ k)) in
-    rw z (ap (λ (x : ℕ). odd 25 false (nearestRoot x) k 149) (ap (λ (x : ℕ). x / (2 ^ k * 2 ^ k)) p ∙ mul-div-cancel (q * 2 ^ w) (mul-pos (pow-pos k) (pow-pos k))))
+root-scaled n k long short = rw (half, mul-div-cancel n (mul-pos (pow-pos k) (pow-pos k)))
+  where
+    twice : n * (2 ^ k * 2 ^ k) ≡ n * 2 ^ (k + k)
+    twice = ap (λ (x : ℕ). n * x) (sym (pow-add 2 k k))
+
+    half : (size (n * (2 ^ k * 2 ^ k)) - 47) / 2 ≡ k
+    half =
+        ⊎-elim
+        (λ (l : n / 2 ^ 47 ≡ 0). rw (twice, size-scaled 46 n (k + k) long (omega arith)) (omega arith))
+        (λ (l : 0 < n / 2 ^ 47). rw (twice, size-scaled 47 n (k + k) (omega arith) short) (omega arith))
+        (eq-zero-or-pos (n / 2 ^ 47))

@@ -1,70 +1,69 @@
--- `float32::root::sqrt` meets its contract. x is the float of its bits, and the bits say which operand it is: a zero or +infinity, which return themselves, a NaN, a negative, or one that is finite and above zero.
+-- `float32::root::sqrt` meets its contract: a special operand's answer is its root (`sorted`), and any other's is what the two steps behind find (`exact-rounded`).
 -- Assumes nothing.
-use Prim.Native.Nat.{ℕ, _<_, _^_}
-use native.Mathlib.Omega.{arith}
-use mathlib.Core.Path.{_≡_, sym, ap, subst, _∙_}
+use mathlib.Core.Path.{sym, subst, _∙_}
 use lib.Dec.{T}
-use lib.Ieee.{Float, binary32, fits, div, ofBits}
-use lib.Ieee.Bits.{ofBits-toBits, toBits-lt}
+use lib.Ieee.{Float, binary32, fits}
 use borrow.Author.Needs.{needs}
-use Rattle.float32.specs.Root.{sqrtOf}
-use Rattle.float32.proofs.root.Values.{root-of-zero, root-of-negative, root-of-infinite}
+use Rattle.float32.specs.Steps.{InRange, Exact}
+use Rattle.float32.specs.declared.root.Operand.the-variants.{Positive}
+use Rattle.float32.proofs.root.Steps.{Sorted, sorted, exact-rounded}
 use Rattle.float32.proofs.root.sqrt.Statement.{statement}
 use Rattle.float32.proofs.root.sqrt.Tie as tie
 
-bits-of-requires : tie.Need-bits-of-requires
-bits-of-requires c κs = search needs
+special-requires : tie.Need-special-requires
+special-requires c κs = search needs
+
+enum-known-operand : tie.Need-enum-known-operand
+enum-known-operand c = search needs
+
+enum-known-operand-2 : tie.Need-enum-known-operand-2
+enum-known-operand-2 c = search needs
 
 -- x is an f32 value
-value : (c : tie.After-bits-of) → T (fits binary32 (c .before .args .x))
+value : (c : tie.After-special) → T (fits binary32 (c .before .args .x))
 value c = subst T (sym (c .before .good .0 .1)) tt
 
--- x is the float with the bits b
-is-of-bits : (c : tie.After-bits-of) → ofBits binary32 (c .bits-of .result) ≡ c .before .args .x
-is-of-bits c = ap (ofBits binary32) (c .bits-of .ensures) ∙ ofBits-toBits binary32 (c .before .args .x) (value c)
+-- what the first step found
+found : (c : tie.After-special) → Sorted (c .before .args .x) (c .special .result)
+found c = subst (Sorted (c .before .args .x)) (sym (c .special .ensures .0)) (sorted (c .before .args .x) (value c))
 
-in-range : (c : tie.After-bits-of) → c .bits-of .result < 2 ^ 32
-in-range c = subst (λ (n : ℕ). n < 2 ^ 32) (sym (c .bits-of .ensures)) (toBits-lt binary32 (c .before .args .x) (value c))
+positive : (c : tie.After-operand2) → Sorted (c .before .before .before .args .x) (Positive (c .operand2 .given .0 .0))
+positive c = subst (Sorted (c .before .before .before .args .x)) (c .operand2 .given .1) (found (c .before .before))
+
+root-with-remainder-requires : tie.Need-root-with-remainder-requires
+root-with-remainder-requires c κs =
+    let at = c .before in
+    let r : InRange (Positive (at .operand2 .given .0 .0)) = subst InRange (at .operand2 .given .1) (at .before .before .special .ensures .1) in
+    (r .0, r .1)
+
+rounded-requires : tie.Need-rounded-requires
+rounded-requires c κs =
+    let r = c .root-with-remainder .ensures in
+    (r .low, r .high, r .far)
 
 returns : tie.Need-returns
 returns c =
     let at = c .before in
-    let b = at .bits-of .result in
-    subst (λ (x : Float). x ≡ sqrtOf x) (is-of-bits at) (sym (root-of-zero b (c .if1 .taken) (in-range at)))
+    let x = at .before .before .before .args .x in
+    subst (Sorted x) (at .operand .given .1) (found (at .before .before))
 
 returns-2 : tie.Need-returns-2
-unfolding div ofBits
 returns-2 c =
-    let at = c .before .before in
-    let b = at .bits-of .result in
-    sym (ap sqrtOf (sym (is-of-bits at)) ∙ root-of-negative b (c .if2 .taken) (in-range at))
-
-returns-3 : tie.Need-returns-3
-returns-3 c =
     let at = c .before .before .before in
-    let b = at .bits-of .result in
-    subst (λ (x : Float). x ≡ sqrtOf x) (is-of-bits at) (sym (root-of-infinite b (c .if3 .taken) (omega (arith, c .before .before .if1 .left))))
-
-root-bits-requires : tie.Need-root-bits-requires
-root-bits-requires c κs = search needs
-
-of-bits-requires : tie.Need-of-bits-requires
-of-bits-requires c κs = search needs
-
-returns-4 : tie.Need-returns-4
-returns-4 c =
-    c .of-bits .ensures
-    ∙ c .before .root-bits .ensures .1
-    ∙ ap sqrtOf (is-of-bits (c .before .before .before .before .before))
+    let x = at .before .before .before .args .x in
+    let p = positive at in
+    let r = c .before .root-with-remainder .result in
+    c .rounded .ensures
+    ∙ exact-rounded x r (subst (λ (y : Float). Exact y r) (p .0) (c .before .root-with-remainder .ensures)) (value (at .before .before)) (p .1)
 
 pub sqrt-spec : {M : Type 1} → statement M
 sqrt-spec =
     tie.close
     (tie.spec
-    bits-of-requires
+    special-requires
+    enum-known-operand
+    enum-known-operand-2
+    root-with-remainder-requires
+    rounded-requires
     returns
-    returns-2
-    returns-3
-    root-bits-requires
-    of-bits-requires
-    returns-4)
+    returns-2)
