@@ -37,6 +37,7 @@ const OVERFLOW: u32 = 9;
 /// The most that ours may take, in times of the Rust's.
 const PRODUCT: Option<f64> = Some(1.2);
 const ROOT: Option<f64> = Some(12.0);
+const INPUTS: Option<f64> = Some(5.0);
 
 fn main() {
     match std::env::args().nth(1).as_deref() {
@@ -99,16 +100,16 @@ fn beside_the_rust() {
 
 /// The calls on the state: by value, over an image and in memory.
 fn on_state() {
-    for (index, turns, shape) in [
-        (SLOT, PLAIN, "slots alone"),
-        (OVERFLOW, LISTS, "an overflow light"),
+    for (index, turns, shape, bound) in [
+        (SLOT, PLAIN, "slots alone", None),
+        (OVERFLOW, LISTS, "an overflow light", INPUTS),
     ] {
         let times = on_calls(
             turns,
             |n| ours::vs_source_light_inputs(n, black_box(index)),
             |n| theirs::vs_source_light_inputs(n, black_box(index)),
         );
-        row("vs_source_light_inputs", shape, &times, None);
+        row("vs_source_light_inputs", shape, &times, bound);
     }
     fills();
     refreshes();

@@ -114,8 +114,8 @@ struct Scene {
 
 /// The most that a fill by value may take, in times of the Rust's.
 const FEW_ROWS: f64 = 2.0;
-const LIGHTS: f64 = 4.0;
-const PALETTE: f64 = 1.4;
+const LIGHTS: f64 = 3.0;
+const PALETTE: f64 = 1.3;
 
 /// A row of the table: the call, how it is made, the bound, and the times of both.
 pub type Timed = (&'static str, &'static str, Option<f64>, Times);

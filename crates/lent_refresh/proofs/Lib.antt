@@ -3,3 +3,4 @@ pub mod Fields
 pub mod Cell
 pub mod Order
 pub mod Numbers
+pub mod Laws
