@@ -1,5 +1,5 @@
 // The lights from index 8 on of a lent state. The entries and their count are taken out, changed by
-// value and put back: one function for both calls, so that their own frames stay small.
+// value and put back: 6 KB, not the state.
 ghost use mathlib.Core.Path.{_≡_};
 ghost use Rattle.ff_state.specs.declared.state.FfState.{FfState};
 ghost use Rattle.lent_lights.specs.Table.{changedEntry, withTable, tableLeft, ffStateChangeTable};
