@@ -1,11 +1,12 @@
 -- The entries of a lent state and their count: what whoever holds a state or a table knows of them, what closing the borrow asks, and that what a call leaves is what `changeEntry` leaves.
 -- Assumes nothing.
 use mathlib.Core.Path.{_≡_, refl, sym, ap, subst, _∙_}
-use Prim.Native.Nat.{ℕ, _+_, _<_, _^_}
+use Prim.Native.Nat.{ℕ, _+_, _≤_, _<_, _^_}
+use native.Mathlib.Omega.{arith}
 use mathlib.Core.Bool.{Bool, true, false, cond, not, _&&_}
 use mathlib.Core.List.{List, [], _∷_, map}
 use lib.Bits.{bitOr, or-lt, or-zero-r}
-use lib.Dec.{eqb, ltb}
+use lib.Dec.{eqb, ltb, lit<}
 use lib.ListN.{getD, set, length-map}
 use mir.Val.{Val, boolByte}
 use denote.Laws.{Is}
@@ -29,7 +30,7 @@ use Rattle.ff_state.specs.declared.state.FfState.{FfState}
 use Rattle.ff_state.proofs.Found.{entry-there}
 use Rattle.ff_state.proofs.state.FfState as St
 use Rattle.ff_state.proofs.state.FfState.Laws as St′
-use borrow.Author.Tests.{lt-ltb}
+use borrow.Author.Tests.{lt-ltb, le-ltb, ne-eqb}
 use Rattle.lent_state.proofs.Item.{vals}
 use Rattle.lent_state.proofs.Fields.{IsState}
 use Rattle.lent_lights.specs.Calls.{ffStateSetLightAt, ffStateSetLightEnabledAt}
@@ -86,55 +87,66 @@ module _ (t : Table) {vs : List Val} (is : Is Tb.the-row t vs) where
 abbrev answered : LightChanged → ℕ × FfState
 answered c = (lightNumber (c .answer), c .state)
 
-pub enables-byte : (on : ℕ) → boolByte (not (eqb on 0)) ≡ enables on
+pub enables-byte : (how : ℕ) → boolByte (eqb how 1) ≡ enables how
 unfolding flag
-enables-byte on = flag-is (not (eqb on 0))
+enables-byte how = flag-is (eqb how 1)
 
-module _ (s : FfState) (es : List OverflowLight) (n i : ℕ) (l : D3DLIGHT9) (how on : ℕ) (f : Found) (e : f ≡ found (withTable s es n) i) where
+module _ (s : FfState) (es : List OverflowLight) (n i : ℕ) (l : D3DLIGHT9) (how : ℕ) (f : Found) (e : f ≡ found (withTable s es n) i) where
   abbrev t : FfState
   t = withTable s es n
 
   abbrev change : OverflowLight → OverflowLight
-  change = changedEntry l how (enables on)
+  change = changedEntry l how (enables how)
 
   abbrev made : OverflowLight
-  made = lightEntry i (enables on) l
+  made = lightEntry i (enables how) l
 
   -- from how the search came out
-  came : (b : Bool) → f .stored ≡ b → answered (cond b (replaceEntry t (f .at) (change (storedEntry t (f .at)))) (insertEntry t (f .at) made)) ≡ ffStateChangeTable t i l how on
+  came : (b : Bool) → f .stored ≡ b → answered (cond b (replaceEntry t (f .at) (change (storedEntry t (f .at)))) (insertEntry t (f .at) made)) ≡ ffStateChangeTable t i l how
   unfolding changeEntry
   came b is =
       ap (λ (y : Bool). answered (cond y (replaceEntry t (f .at) (change (storedEntry t (f .at)))) (insertEntry t (f .at) made))) (sym is) ∙ ap (λ (g : Found). answered (changeEntry t g change made)) e
 
-  pub stored-left : f .stored ≡ true → (d x : OverflowLight) → x ≡ changedEntry l how (boolByte (not (eqb on 0))) (getD es (f .at) d)
-      → (0, tableLeft s (record { entries = set es (f .at) x; count = n; bits = 8; number = 0 })) ≡ ffStateChangeTable t i l how on
+  pub stored-left : f .stored ≡ true → (d x : OverflowLight) → x ≡ changedEntry l how (boolByte (eqb how 1)) (getD es (f .at) d)
+      → (0, tableLeft s (record { entries = set es (f .at) x; count = n; bits = 8; number = 0 })) ≡ ffStateChangeTable t i l how
   unfolding replaceEntry dirtied lightNumber
   stored-left stored d x is =
       ap (λ (y : OverflowLight). answered (replaceEntry t (f .at) y))
-      (is ∙ ap (λ (b : ℕ). changedEntry l how b (getD es (f .at) d)) (enables-byte on) ∙ ap change (entry-there t i f e stored d))
+      (is ∙ ap (λ (b : ℕ). changedEntry l how b (getD es (f .at) d)) (enables-byte how) ∙ ap change (entry-there t i f e stored d))
       ∙ came true stored
 
   -- u is the count as the code reads it
   module _ (absent : f .stored ≡ false) (u : ℕ) (q : u ≡ usedCount n) where
-    pub grown-left : (ws : List OverflowLight) → u < 56 → f .at < 56 → ws ≡ insertedAt (f .at) (lightEntry i (boolByte (not (eqb on 0))) l) es
-        → (0, tableLeft s (record { entries = ws; count = u + 1; bits = 8; number = 0 })) ≡ ffStateChangeTable t i l how on
+    pub grown-left : (ws : List OverflowLight) → u < 56 → f .at < 56 → ws ≡ insertedAt (f .at) (lightEntry i (boolByte (eqb how 1)) l) es
+        → (0, tableLeft s (record { entries = ws; count = u + 1; bits = 8; number = 0 })) ≡ ffStateChangeTable t i l how
     unfolding insertEntry dirtied lightNumber
     grown-left ws room below is =
         ap (λ (ys : List OverflowLight). (0, tableLeft s (record { entries = ys; count = u + 1; bits = 8; number = 0 })))
-        (is ∙ ap (λ (b : ℕ). insertedAt (f .at) (lightEntry i b l) es) (enables-byte on))
+        (is ∙ ap (λ (b : ℕ). insertedAt (f .at) (lightEntry i b l) es) (enables-byte how))
         ∙ rw (← came false absent, ← q, lt-ltb u 56 room, lt-ltb (f .at) 56 below)
 
-    pub full-left : (ltb u 56 && ltb (f .at) 56) ≡ false → (3, tableLeft s (record { entries = es; count = n; bits = 0; number = 3 })) ≡ ffStateChangeTable t i l how on
+    pub full-left : (ltb u 56 && ltb (f .at) 56) ≡ false → (3, tableLeft s (record { entries = es; count = n; bits = 0; number = 3 })) ≡ ffStateChangeTable t i l how
     unfolding insertEntry lightNumber
     full-left full = rw (← came false absent, ← q, full, or-zero-r (dirtyWord s))
 
 -- ---- as the C names call it
 
-module _ (h : FfState) (n : ℕ) (far : ltb n 8 ≡ false) where
-  pub table-sets : (m : D3DLIGHT9) → ffStateChangeTable h n m 1 0 ≡ ffStateSetLightAt h n m
-  unfolding setLightAt flag
-  table-sets m = rw far
+pub byte-small : (b : Bool) → boolByte b < 2 ^ 32
+byte-small true = lit< tt
+byte-small false = lit< tt
 
-  pub table-enables : (m : D3DLIGHT9) (on : ℕ) → m ≡ defaultLight → ffStateChangeTable h n m 0 on ≡ ffStateSetLightEnabledAt h n on
-  unfolding setLightEnabledAt
-  table-enables m on same = rw (far, same)
+module _ (h : FfState) (n : ℕ) (far : 8 ≤ n) where
+  not-one : n ≡ 1 → ⊥
+  not-one e = omega (arith, e, far)
+
+  pub table-sets : (m : D3DLIGHT9) → ffStateChangeTable h n m n ≡ ffStateSetLightAt h n m
+  unfolding setLightAt flag lightNumber changeEntry
+  table-sets m = rw (le-ltb n 8 far, le-ltb n 2 (omega (arith, far)), ne-eqb n 1 not-one)
+
+  enabled-by : (on : Bool) → ffStateChangeTable h n defaultLight (boolByte on) ≡ (lightNumber (setLightEnabledAt h n on .answer), setLightEnabledAt h n on .state)
+  unfolding setLightEnabledAt flag
+  enabled-by true = rw (le-ltb n 8 far)
+  enabled-by false = rw (le-ltb n 8 far)
+
+  pub table-enables : (m : D3DLIGHT9) (on : ℕ) → m ≡ defaultLight → ffStateChangeTable h n m (boolByte (not (eqb on 0))) ≡ ffStateSetLightEnabledAt h n on
+  table-enables m on same = ap (λ (l : D3DLIGHT9). ffStateChangeTable h n l (boolByte (not (eqb on 0)))) same ∙ enabled-by (not (eqb on 0))

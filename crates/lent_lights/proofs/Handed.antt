@@ -95,17 +95,17 @@ module _ {M : Type 1} (𝓤 : URA M) (H : Heap 𝓤) (A : Atoms 𝓤) (W : Given
 abbrev pub Far : {M : Type 1} (𝓤 : URA M) (H : Heap 𝓤) (A : Atoms 𝓤) (mem : Memory → SProp 𝓤) (run : Routine → Fun 𝓤) → Contract 𝓤
 Far 𝓤 H A mem run = tripleOf 𝓤 H A far.signature (far.spec 𝓤 H A mem run)
 
-module _ {M : Type 1} (𝓤 : URA M) (H : Heap 𝓤) (A : Atoms 𝓤) (at-mem : Memory → SProp 𝓤) (run : Routine → Fun 𝓤) (b o : ℕ) (α : Lft) (δ : GName) (s : FfState) (n : ℕ) (m : D3DLIGHT9) (set on : ℕ) where
+module _ {M : Type 1} (𝓤 : URA M) (H : Heap 𝓤) (A : Atoms 𝓤) (at-mem : Memory → SProp 𝓤) (run : Routine → Fun 𝓤) (b o : ℕ) (α : Lft) (δ : GName) (s : FfState) (n : ℕ) (m : D3DLIGHT9) (how : ℕ) where
   abbrev pub to-far : Far 𝓤 H A at-mem run .Ghost
   to-far =
-      (((α, tt), (fullShare, tt), tt, (at-ref b o δ s, (n, (m, (set, (on, tt))))), (vptr b o ∷ [], (vint w32 n ∷ [], (LL.val Lt.the-type Lt′.the-laws m ∷ [], (vint w32 set ∷ [], (vint w32 on ∷ [], tt)))))), tt)
+      (((α, tt), (fullShare, tt), tt, (at-ref b o δ s, (n, (m, (how, tt)))), (vptr b o ∷ [], (vint w32 n ∷ [], (LL.val Lt.the-type Lt′.the-laws m ∷ [], (vint w32 how ∷ [], tt))))), tt)
 
-module _ {M : Type 1} (𝓤 : URA M) (H : Heap 𝓤) (A : Atoms 𝓤) (W : Given 𝓤 H A) (at-mem : Memory → SProp 𝓤) (run : Routine → Fun 𝓤) (b o : ℕ) (α : Lft) (δ : GName) (s : FfState) (n : ℕ) (m : D3DLIGHT9) (set on : ℕ) where
-  pub goes-far : n < 2 ^ 32 → IsLight m → set < 2 ^ 32 → on < 2 ^ 32
-      → ent 𝓤 (sep 𝓤 (A .lft α fullShare) (sem 𝓤 H A (MutRef (named 0) α St.the-row .own (at-ref b o δ s) (vptr b o ∷ [])))) (Far 𝓤 H A at-mem run .pre (to-far 𝓤 H A at-mem run b o α δ s n m set on))
-  goes-far n-fits m-is set-fits on-fits =
+module _ {M : Type 1} (𝓤 : URA M) (H : Heap 𝓤) (A : Atoms 𝓤) (W : Given 𝓤 H A) (at-mem : Memory → SProp 𝓤) (run : Routine → Fun 𝓤) (b o : ℕ) (α : Lft) (δ : GName) (s : FfState) (n : ℕ) (m : D3DLIGHT9) (how : ℕ) where
+  pub goes-far : n < 2 ^ 32 → IsLight m → how < 2 ^ 32
+      → ent 𝓤 (sep 𝓤 (A .lft α fullShare) (sem 𝓤 H A (MutRef (named 0) α St.the-row .own (at-ref b o δ s) (vptr b o ∷ [])))) (Far 𝓤 H A at-mem run .pre (to-far 𝓤 H A at-mem run b o α δ s n m how))
+  goes-far n-fits m-is how-fits =
       qed W (‵ (flft α fullShare) ∷ ‵ (MutRef (named 0) α St.the-row .own (at-ref b o δ s) (vptr b o ∷ [])) ∷ []) ∵ nothing ! $ move ! (1 ∷ 0 ∷ []) $ join ! $
-      nothing ! $ owned ! u32 (Is u32) (uint-makes 𝓤 H A W w32) on _ (refl, on-fits) $ fjoin ! $ owned ! u32 (Is u32) (uint-makes 𝓤 H A W w32) set _ (refl, set-fits) $ fjoin ! $
+      nothing ! $ owned ! u32 (Is u32) (uint-makes 𝓤 H A W w32) how _ (refl, how-fits) $ fjoin ! $
       owned ! Lt.the-row (Is Lt.the-row) (LL.makes Lt.the-type Lt′.the-plain 𝓤 H A) m _ m-is $ fjoin ! $ owned ! u32 (Is u32) (uint-makes 𝓤 H A W w32) n _ (refl, n-fits) $ fjoin ! $ move ! (2 ∷ 0 ∷ []) $ fjoin ! $
       move ! (1 ∷ 0 ∷ []) $ join ! $ nothing ! $ move ! (1 ∷ 0 ∷ []) $ join ! $ done !
 

@@ -18,7 +18,8 @@ pub extern "C" fn ff_state_set_light_at(s: &mut FfState, index: u32, light: &D3D
         store_slot(s, index, *light);
         return 0;
     }
-    change_table(s, index, *light, 1, 0)
+    // The index is a number above 1, which sets.
+    change_table(s, index, *light, index)
 }
 
 // 0, or 3 as above. Any number but 0 enables.
@@ -30,7 +31,7 @@ pub extern "C" fn ff_state_set_light_enabled_at(s: &mut FfState, index: u32, ena
         enable_slot(s, index, enabled);
         return 0;
     }
-    change_table(s, index, default_light(), 0, enabled)
+    change_table(s, index, default_light(), (enabled != 0) as u32)
 }
 
 // 0; what a key is made from goes to `out`.

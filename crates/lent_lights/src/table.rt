@@ -18,12 +18,12 @@ pub struct Table {
     pub number: u32,
 }
 
-// A stored entry with another light, or, where `set` is 0, with another enable.
-fn changed_entry(e: OverflowLight, light: D3DLIGHT9, set: u32, enabled: u32) -> OverflowLight
-    ensures { λ r. ⌜ r ≡ changedEntry light set enabled e ⌝ }
+// A stored entry with another enable, or, from 2 on, with another light.
+fn changed_entry(e: OverflowLight, light: D3DLIGHT9, how: u32, enabled: u32) -> OverflowLight
+    ensures { λ r. ⌜ r ≡ changedEntry light how enabled e ⌝ }
 {
     let mut changed = e;
-    if set == 0 {
+    if how < 2 {
         changed.enabled = enabled;
         return changed;
     }
@@ -31,24 +31,24 @@ fn changed_entry(e: OverflowLight, light: D3DLIGHT9, set: u32, enabled: u32) -> 
     changed
 }
 
-// Any number `on` but 0 enables. A light that is not stored is made, of `light`.
+// Disables by 0, enables by 1, and sets by any other number. A light that is not stored is made, of
+// `light`.
 pub fn changed_table(
     entries: [OverflowLight; 56],
     count: u16,
     index: u32,
     light: D3DLIGHT9,
-    set: u32,
-    on: u32,
+    how: u32,
 ) -> Table
-    ensures { λ r. ⌜ ((s : FfState) → (r .number, tableLeft s r) ≡ ffStateChangeTable (withTable s entries count) index light set on) ⌝ }
+    ensures { λ r. ⌜ ((s : FfState) → (r .number, tableLeft s r) ≡ ffStateChangeTable (withTable s entries count) index light how) ⌝ }
 {
     let used = used_count(count);
     let found = find(entries, used, index);
     let at = found.at;
-    let enabled = (on != 0) as u32;
+    let enabled = (how == 1) as u32;
     if found.stored {
         let mut out = entries;
-        let e = changed_entry(entries[at], light, set, enabled);
+        let e = changed_entry(entries[at], light, how, enabled);
         out[at] = e;
         return Table {
             entries: out,
@@ -83,10 +83,12 @@ pub fn changed_table(
     }
 }
 
-pub fn change_table(s: &mut FfState, index: u32, light: D3DLIGHT9, set: u32, on: u32) -> u32
-    ensures { λ r. ⌜ (r, now (s .exit)) ≡ ffStateChangeTable (now (s .entry)) index light set on ⌝ }
+// Neither caller has `how` as a constant: so this is compiled once, and not into both, whose frames
+// would then hold the table.
+pub fn change_table(s: &mut FfState, index: u32, light: D3DLIGHT9, how: u32) -> u32
+    ensures { λ r. ⌜ (r, now (s .exit)) ≡ ffStateChangeTable (now (s .entry)) index light how ⌝ }
 {
-    let t = changed_table(s.overflow_lights, s.overflow_count, index, light, set, on);
+    let t = changed_table(s.overflow_lights, s.overflow_count, index, light, how);
     s.overflow_lights = t.entries;
     s.overflow_count = t.count;
     s.ff_vs_dirty = s.ff_vs_dirty | t.bits;

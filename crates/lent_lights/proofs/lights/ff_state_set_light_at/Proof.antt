@@ -51,7 +51,7 @@ use Rattle.lent_lights.proofs.Handed.{at-ref, Store, to-slot, goes-slot
 use Rattle.ff_state.specs.Slots.{setSlot}
 use Rattle.ff_state.specs.Lights.{setLightAt, lightNumber}
 use Rattle.lent_state.proofs.Rest.{behind, env}
-use borrow.Author.Tests.{lt-ltb, le-ltb}
+use borrow.Author.Tests.{lt-ltb}
 use Rattle.lent_lights.specs.Table.{ffStateChangeTable}
 use Rattle.lent_lights.proofs.Entries.{table-sets}
 use Rattle.lent_lights.proofs.slots.store_slot as slot
@@ -136,11 +136,11 @@ module _ {M : Type 1} (𝓤 : URA M) (H : Heap 𝓤) (A : Atoms 𝓤) (W : Given
         lft-new ! tt (λ ν.
         move ! (3 ∷ 24 ∷ []) $
         use2 W (later (some (λ (δ : GName). ‵ (MutRef (named 0) (ν ∷ []) St.the-row .own (at-ref b₀ o₀ δ h) (vptr b₀ o₀ ∷ [])) ⊛ ‵ (LentAgain St.the-row κ₀ (ν ∷ []) q₀ γ₀ b₀ o₀ δ h)))) (lends-again 𝓤 H A W St.the-row (named 0) κ₀ (ν ∷ []) q₀ γ₀ b₀ o₀ (named 0) h) $ await ! tt $ pick ! (λ δ. split ! $
-        move ! (2 ∷ 0 ∷ []) $ use2 W (raw (Far 𝓤 H A at-mem run .pre (to-far 𝓤 H A at-mem run b₀ o₀ (ν ∷ []) δ h n m 1 0))) (goes-far 𝓤 H A W at-mem run b₀ o₀ (ν ∷ []) δ h n m 1 0 n-fits m-is (lit< tt) (lit< tt)) $
-        calls-at ! fm (Far 𝓤 H A at-mem run) known-far (to-far 𝓤 H A at-mem run b₀ o₀ (ν ∷ []) δ h n m 1 0) (and-then ! (load ! (from ! (stop !)) (look ! 6 refl)) (and-then ! (load ! (from ! (stop !)) (look ! 18 refl)) (and-then ! (load ! (from ! (stop !)) (look ! 4 refl)) (and-then ! (lit ! tt) (and-then ! (lit ! tt) (no-more !)))))) (λ v.
-        use1 W (later (some (λ (k : ℕ). ((‵ (flft (ν ∷ []) fullShare) ⊛ ‵ ftrue) ⊛ ‵ (u32 .own k (v ∷ []))) ⊛ raw (ensured 𝓤 H A far.ended (far.clauses 𝓤 H A at-mem run) (ν ∷ [], tt) (at-ref b₀ o₀ δ h, (n, (m, (1, (0, tt))))) tt k)))) (id⊢ 𝓤 _) $ await ! tt $ pick ! (λ k.
-        split ! $ move ! (1 ∷ []) $ use1 W (some (λ (ys : FfState × (Unit {0} × (Unit {0} × (Unit {0} × (Unit {0} × Unit {0}))))). ‵ (lasts far.ended (ν ∷ [], tt) (at-ref b₀ o₀ δ h, (n, (m, (1, (0, tt))))) ys) ⊛ raw (fact 𝓤 ((k, ys .0) ≡ ffStateChangeTable h n m 1 0)))) (id⊢ 𝓤 _) $ pick ! (λ ys.
-        split ! $ move ! (1 ∷ []) $ heard ! ((k, ys .0) ≡ ffStateChangeTable h n m 1 0) (λ is. fsplit ! $ move ! (2 ∷ []) $ split ! $ move ! (1 ∷ []) $ peeks ! u32 (Is u32) (shows 𝓤 H A u32) k (v ∷ []) (λ k-is. drop ! $
+        move ! (2 ∷ 0 ∷ []) $ use2 W (raw (Far 𝓤 H A at-mem run .pre (to-far 𝓤 H A at-mem run b₀ o₀ (ν ∷ []) δ h n m n))) (goes-far 𝓤 H A W at-mem run b₀ o₀ (ν ∷ []) δ h n m n n-fits m-is n-fits) $
+        calls-at ! fm (Far 𝓤 H A at-mem run) known-far (to-far 𝓤 H A at-mem run b₀ o₀ (ν ∷ []) δ h n m n) (and-then ! (load ! (from ! (stop !)) (look ! 6 refl)) (and-then ! (load ! (from ! (stop !)) (look ! 18 refl)) (and-then ! (load ! (from ! (stop !)) (look ! 4 refl)) (and-then ! (load ! (from ! (stop !)) (look ! 18 refl)) (no-more !))))) (λ v.
+        use1 W (later (some (λ (k : ℕ). ((‵ (flft (ν ∷ []) fullShare) ⊛ ‵ ftrue) ⊛ ‵ (u32 .own k (v ∷ []))) ⊛ raw (ensured 𝓤 H A far.ended (far.clauses 𝓤 H A at-mem run) (ν ∷ [], tt) (at-ref b₀ o₀ δ h, (n, (m, (n, tt)))) tt k)))) (id⊢ 𝓤 _) $ await ! tt $ pick ! (λ k.
+        split ! $ move ! (1 ∷ []) $ use1 W (some (λ (ys : FfState × (Unit {0} × (Unit {0} × (Unit {0} × Unit {0})))). ‵ (lasts far.ended (ν ∷ [], tt) (at-ref b₀ o₀ δ h, (n, (m, (n, tt)))) ys) ⊛ raw (fact 𝓤 ((k, ys .0) ≡ ffStateChangeTable h n m n)))) (id⊢ 𝓤 _) $ pick ! (λ ys.
+        split ! $ move ! (1 ∷ []) $ heard ! ((k, ys .0) ≡ ffStateChangeTable h n m n) (λ is. fsplit ! $ move ! (2 ∷ []) $ split ! $ move ! (1 ∷ []) $ peeks ! u32 (Is u32) (shows 𝓤 H A u32) k (v ∷ []) (λ k-is. drop ! $
         land ! (from ! (stop !)) (init ! 24 refl (uint-lawful 𝓤 H A W w32 .typed k _ k-is .0)) $
         split ! $ lft-end ! tt $
         move ! (0 ∷ 4 ∷ 2 ∷ []) $
@@ -150,7 +150,7 @@ module _ {M : Type 1} (𝓤 : URA M) (H : Heap 𝓤) (A : Atoms 𝓤) (W : Given
         returns ! (look ! 25 refl) $
         forget ! 7 refl $ forget ! 9 refl $ forget ! 17 refl $ forget ! 19 refl $ forget ! 21 refl $ forget ! 23 refl $ forget ! 25 refl $
         move ! (25 ∷ 26 ∷ []) $ free1 ! $ move ! (23 ∷ 24 ∷ []) $ free1 ! $ move ! (21 ∷ 22 ∷ []) $ free1 ! $ move ! (19 ∷ 20 ∷ []) $ free1 ! $ move ! (17 ∷ 18 ∷ []) $ free1 ! $ move ! (15 ∷ 16 ∷ []) $ free1 ! $ move ! (13 ∷ 14 ∷ []) $ free1 ! $ move ! (11 ∷ 12 ∷ []) $ free1 ! $ move ! (9 ∷ 10 ∷ []) $ free1 ! $ move ! (7 ∷ 8 ∷ []) $ free1 ! $ free0 ! $
-        keep ! (0 ∷ 1 ∷ 2 ∷ 5 ∷ 6 ∷ 7 ∷ []) $ by ! (exits k (ys .0) (k-is .1) (is ∙ table-sets h n (le-ltb n 8 (nltb→le n 8 off)) m))))))))))))))))))))))
+        keep ! (0 ∷ 1 ∷ 2 ∷ 5 ∷ 6 ∷ 7 ∷ []) $ by ! (exits k (ys .0) (k-is .1) (is ∙ table-sets h n (nltb→le n 8 off) m))))))))))))))))))))))
 
 module _ {M : Type 1} (𝓤 : URA M) (H : Heap 𝓤) (A : Atoms 𝓤) (W : Given 𝓤 H A) (mem : Memory → SProp 𝓤) (run : Routine → Fun 𝓤) where
   walks : (C : Calls 𝓤 H) (Λ : Loops 𝓤 H) → FmC 𝓤 H (W .laws) C → Triple 𝓤 (C #store-slot) (Store 𝓤 H A mem run) → Triple 𝓤 (C #change-table) (Far 𝓤 H A mem run) → Walks 𝓤 H A f.ended stayed (WpFn 𝓤 H C Λ code.function) (f.clauses 𝓤 H A mem run)

@@ -53,37 +53,37 @@ returns c =
     let test = c .before .before in
     let at = test .before in
     let a = at .before .before .args in
-    λ s. stored-left s (a .t1) (a .count) (a .index) (a .light) (a .set) (a .on) (at .find .result) (is-found s at) (test .if1 .taken) _ (c .changed-entry .result) (c .changed-entry .ensures)
+    λ s. stored-left s (a .t1) (a .count) (a .index) (a .light) (a .how) (at .find .result) (is-found s at) (test .if1 .taken) _ (c .changed-entry .result) (c .changed-entry .ensures)
 
 inserted-at-requires : tie.Need-inserted-at-requires
 inserted-at-requires c κs = search needs
 
-add-t27 : tie.Need-add-t27
-add-t27 c = search needs
+add-t26 : tie.Need-add-t26
+add-t26 c = search needs
 
-cast-t28 : tie.Need-cast-t28
-cast-t28 c = search needs
+cast-t27 : tie.Need-cast-t27
+cast-t27 c = search needs
 
 returns-2 : tie.Need-returns-2
 returns-2 c =
     let room = c .before .before in
     let at = room .before .before in
     let a = at .before .before .args in
-    λ s. grown-left s (a .t1) (a .count) (a .index) (a .light) (a .set) (a .on) (at .find .result) (is-found s at) (room .before .if1 .left) (at .before .used-count .result) (at .before .used-count .ensures)
+    λ s. grown-left s (a .t1) (a .count) (a .index) (a .light) (a .how) (at .find .result) (is-found s at) (room .before .if1 .left) (at .before .used-count .result) (at .before .used-count .ensures)
     (c .inserted-at .result) (room .if2 .taken) (c .before .if3 .taken) (c .inserted-at .ensures)
 
 returns-3 : tie.Need-returns-3
 returns-3 c =
     let at = c .before .before .before in
     let a = at .before .before .args in
-    λ s. full-left s (a .t1) (a .count) (a .index) (a .light) (a .set) (a .on) (at .find .result) (is-found s at) (c .before .before .if1 .left) (at .before .used-count .result) (at .before .used-count .ensures)
+    λ s. full-left s (a .t1) (a .count) (a .index) (a .light) (a .how) (at .find .result) (is-found s at) (c .before .before .if1 .left) (at .before .used-count .result) (at .before .used-count .ensures)
     (rw (lt-ltb _ 56 (c .before .if2 .taken), le-ltb _ 56 (c .if3 .left)))
 
 returns-4 : tie.Need-returns-4
 returns-4 c =
     let at = c .before .before in
     let a = at .before .before .args in
-    λ s. full-left s (a .t1) (a .count) (a .index) (a .light) (a .set) (a .on) (at .find .result) (is-found s at) (c .before .if1 .left) (at .before .used-count .result) (at .before .used-count .ensures)
+    λ s. full-left s (a .t1) (a .count) (a .index) (a .light) (a .how) (at .find .result) (is-found s at) (c .before .if1 .left) (at .before .used-count .result) (at .before .used-count .ensures)
     (rw (le-ltb _ 56 (c .if2 .left)))
 
 pub changed-table-spec : {M : Type 1} → statement M
@@ -100,8 +100,8 @@ changed-table-spec =
     array-set-from-out
     returns
     inserted-at-requires
-    add-t27
-    cast-t28
+    add-t26
+    cast-t27
     returns-2
     returns-3
     returns-4)
