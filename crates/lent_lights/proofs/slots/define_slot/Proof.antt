@@ -128,8 +128,8 @@ module _ {M : Type 1} (𝓤 : URA M) (H : Heap 𝓤) (A : Atoms 𝓤) (W : Given
         -- a light is there: the bit alone
         (λ there.
         assigns ! (of-opd ! (load ! (from ! (hop ! (look ! 20 refl) (fld ! {τ = tyInt w8} {d = 24210} refl (stop !)))) (look-in ! 0 (sub ! 14 {τ = tyInt w8} {d = 24210} refl (whole !))))) (from ! (stop !)) (init ! 12 refl (tt, record { fits = dirty-fits h was })) $
-        assigns ! (bin ! (load ! (from ! (stop !)) (look ! 12 refl)) (lit ! tt) tt) (from ! (stop !)) (init ! 10 refl (tt, record { fits = dirtier h was 8 (lit< tt) })) $
-        assigns ! (of-opd ! (load ! (from ! (stop !)) (look ! 10 refl))) (from ! (hop ! (look ! 20 refl) (fld ! {τ = tyInt w8} {d = 24210} refl (stop !)))) (store-in ! 0 (sub ! 14 {τ = tyInt w8} {d = 24210} refl (whole !)) (tt, record { fits = dirtier h was 8 (lit< tt) })) $
+        assigns ! (bin ! (load ! (from ! (stop !)) (look ! 12 refl)) (lit ! tt) tt) (from ! (stop !)) (init ! 10 refl (tt, record { fits = dirtier h was _ (lit< tt) })) $
+        assigns ! (of-opd ! (load ! (from ! (stop !)) (look ! 10 refl))) (from ! (hop ! (look ! 20 refl) (fld ! {τ = tyInt w8} {d = 24210} refl (stop !)))) (store-in ! 0 (sub ! 14 {τ = tyInt w8} {d = 24210} refl (whole !)) (tt, record { fits = dirtier h was _ (lit< tt) })) $
         assigns ! (of-opd ! (unit-lit !)) (from ! (stop !)) (init ! 22 refl (tt, tt)) $
         use1 W (‵ (cellAt fullShare (St.the-row .mir) (stateVal (withFfVsDirty h (bitOr (dirtyWord h) 8)) ∷ []) b o)) (W .laws .at-raw fullShare St′.mir b o (stateVal (withFfVsDirty h (bitOr (dirtyWord h) 8)))) $
         owned ! St.the-row (Is St.the-row) (LL.makes St.the-type St′.the-plain 𝓤 H A) (withFfVsDirty h (bitOr (dirtyWord h) 8)) (stateVal (withFfVsDirty h (bitOr (dirtyWord h) 8)) ∷ []) (with-dirty h was (bitOr (dirtyWord h) 8) (dirtier h was 8 (lit< tt))) $ move ! (1 ∷ 0 ∷ []) $ closes ! tt St.the-row (withFfVsDirty h (bitOr (dirtyWord h) 8)) (stateVal (withFfVsDirty h (bitOr (dirtyWord h) 8)) ∷ []) b o $
