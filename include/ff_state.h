@@ -249,9 +249,10 @@ uint32_t ff_refresh(uint8_t *image, size_t image_len, FF_KEY, uint8_t *mirror, s
 
 /* For a player that makes many calls in a frame: the same state as an image, held where the caller puts it and changed in
  * place. Its bytes are the library's own; ff_state_fresh or ff_state_read_image makes them a state, and any other call wants
- * one. It may be copied as a whole. What crosses beside it are floats of the machine, aligned as floats: a matrix is 16 of
- * them, a material 17, in the order that FF_MATRIX_BYTES and FF_MATERIAL_BYTES tell. A call answers, dirties and refuses
- * as its fellow over an image does, but for what cannot be: there is no image to be refused, and no item of another length.
+ * one. It may be copied as a whole; two are compared by their images, since some bytes mean nothing. What crosses beside it
+ * are floats of the machine, aligned as floats: a matrix is 16 of them, a material 17, in the order that FF_MATRIX_BYTES and
+ * FF_MATERIAL_BYTES tell. A call answers, dirties and refuses as its fellow over an image does, but for what cannot be: there
+ * is no image to be refused, and no item of another length.
  * These calls stand in liblent_state.a, liblent_lights.a, liblent_images.a and liblent_refresh.a. */
 struct ff_state {
     uint32_t words[6053];
