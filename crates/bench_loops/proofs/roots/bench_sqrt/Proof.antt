@@ -14,41 +14,8 @@ Inv-loop xs out₀ n i₀ out i = (i ≤ n) × (length out ≡ length out₀)
 abbrev μ-loop : tie.MeasureT-loop
 μ-loop xs out₀ n i₀ out i = n - i
 
-least-requires : tie.Need-least-requires Inv-loop μ-loop
-least-requires c κs = search needs
-
-loop-holds : tie.Need-loop-holds Inv-loop μ-loop
-loop-holds c = search needs
-
-mul-sqrt : tie.Need-mul-sqrt Inv-loop μ-loop
-mul-sqrt c = search needs
-
-shared-slice-read-sqrt : tie.Need-shared-slice-read-sqrt Inv-loop μ-loop
-shared-slice-read-sqrt c = search needs
-
-sqrt-requires : tie.Need-sqrt-requires Inv-loop μ-loop
-sqrt-requires c κs = search needs
-
-mul-out : tie.Need-mul-out Inv-loop μ-loop
-mul-out c = search needs
-
-slice-write-out : tie.Need-slice-write-out Inv-loop μ-loop
-slice-write-out c = search needs
-
-add-i : tie.Need-add-i Inv-loop μ-loop
-add-i c = search needs
-
-loop-less : tie.Need-loop-less Inv-loop μ-loop
-loop-less c = search needs
-
 loop-again : tie.Need-loop-again Inv-loop μ-loop
 loop-again c = (omega arith, simp length-set (omega arith))
-
-same-length : tie.Need-same-length Inv-loop μ-loop
-same-length c = search needs
-
-returns : tie.Need-returns Inv-loop μ-loop
-returns c = search needs
 
 pub bench-sqrt-spec : {M : Type 1} → statement M
 bench-sqrt-spec =
@@ -56,15 +23,15 @@ bench-sqrt-spec =
     (tie.spec
     Inv-loop
     μ-loop
-    least-requires
-    loop-holds
-    mul-sqrt
-    shared-slice-read-sqrt
-    sqrt-requires
-    mul-out
-    slice-write-out
-    add-i
-    loop-less
+    (λ c κs. search needs)
+    (λ c. search needs)
+    (λ c. search needs)
+    (λ c. search needs)
+    (λ c κs. search needs)
+    (λ c. search needs)
+    (λ c. search needs)
+    (λ c. search needs)
+    (λ c. search needs)
     loop-again
-    same-length
-    returns)
+    (λ c. search needs)
+    (λ c. search needs))
