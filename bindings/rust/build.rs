@@ -1,5 +1,7 @@
 //! Links the library's archives from FF_STATE_LIB_DIR, else from target/staticlib of this repository.
 
+mod archives;
+
 use std::env;
 use std::path::PathBuf;
 use std::process::exit;
@@ -12,13 +14,7 @@ fn main() {
         None => manifest.join("../../target/staticlib"),
     };
     println!("cargo:rustc-link-search=native={}", folder.display());
-    for name in [
-        "host",
-        "lent_state",
-        "lent_lights",
-        "lent_images",
-        "lent_refresh",
-    ] {
+    for name in archives::ARCHIVES {
         let library = folder.join(format!("lib{name}.a"));
         println!("cargo:rerun-if-changed={}", library.display());
         if !library.is_file() {

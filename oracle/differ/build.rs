@@ -1,5 +1,8 @@
 //! Links our library, and records the compiler, whose float sums the comparison leans on.
 
+#[path = "../../bindings/rust/archives.rs"]
+mod archives;
+
 use std::env;
 use std::path::PathBuf;
 use std::process::Command;
@@ -8,13 +11,7 @@ fn main() {
     let manifest = PathBuf::from(env::var_os("CARGO_MANIFEST_DIR").expect("set by cargo"));
     let folder = manifest.join("../../target/staticlib");
     println!("cargo:rustc-link-search=native={}", folder.display());
-    for name in [
-        "host",
-        "lent_state",
-        "lent_lights",
-        "lent_images",
-        "lent_refresh",
-    ] {
+    for name in archives::ARCHIVES {
         let archive = folder.join(format!("lib{name}.a"));
         println!("cargo:rerun-if-changed={}", archive.display());
         println!("cargo:rustc-link-lib=static={name}");

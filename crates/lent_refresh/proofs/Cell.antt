@@ -12,7 +12,8 @@ use base.Fml.{Lft, GName, Share, fat, flft, fobs, fauth, fbor, fobor}
 use prog.Wp.{Heap}
 use ghost.Atoms.{Atoms}
 use contract.Monad.{fact}
-use types.Kit.{Given, ‵, ⋆, _$_, _∵_, !, qed, move, drop, use1, rewrite, frame, updating, now as at-once, done}
+use types.Kit as kit
+use types.Kit.{Given, ‵, ⋆, _$_, _∵_, !, qed, move, drop, use1, rewrite, frame, updating, done}
 use types.SemTy.{Body}
 use denote.Laws.{Is, shows}
 use denote.Memory.{mem, cellAt}
@@ -71,7 +72,7 @@ module _ {M : Type 1} (𝓤 : URA M) (H : Heap 𝓤) (A : Atoms 𝓤) (κ : Lft)
         use1 W (‵ (fat fullShare St′.mir b o (stateVal z))) (W .laws .raw-at fullShare St′.mir b o (stateVal z)) $
         move ! (1 ∷ []) $ peeks ! St.the-row (Is St.the-row) (shows 𝓤 H A St.the-row) z (stateVal z ∷ []) (λ was. drop ! $
         rewrite ! 0 (λ (w : Val). ‵ (fat fullShare St′.mir b o w)) (by-fields z) refl $
-        at-once ! $ says ! was $ frame ! $ done !))
+        kit.now ! $ says ! was $ frame ! $ done !))
 
     pub lock : (y z : FfState) (w : Val) → w ≡ stateVal z → IsState z → ent 𝓤 (sep 𝓤 (H .at fullShare St′.mir b o w) (Wide y)) (H .⇛ (Shut z))
     unfolding Shut Wide
@@ -80,16 +81,16 @@ module _ {M : Type 1} (𝓤 : URA M) (H : Heap 𝓤) (A : Atoms 𝓤) (κ : Lft)
         rewrite ! 0 (λ (v : Val). ‵ (fat fullShare St′.mir b o v)) e refl $
         use1 W (‵ (cellAt fullShare (St.the-row .mir) (stateVal z ∷ []) b o)) (W .laws .at-raw fullShare St′.mir b o (stateVal z)) $
         owned ! St.the-row (Is St.the-row) (LL.makes St.the-type St′.the-plain 𝓤 H A) z (stateVal z ∷ []) is $ move ! (1 ∷ 0 ∷ []) $ closes ! tt St.the-row z (stateVal z ∷ []) b o $
-        at-once ! $ done !
+        kit.now ! $ done !
 
     pub count-open : (n : ℕ) → ent 𝓤 (Count n) (H .⇛ (sep 𝓤 (H .at fullShare (tyInt w32) b o (vint w32 n)) (Spread n)))
     unfolding Count Spread
     count-open n =
         qed W (‵ (fobs γ (u32 .coded .code n)) ∷ ‵ (fbor κ (Body (mem u32) b o γ)) ∷ ‵ (flft κ q) ∷ []) ∵ updating ! $
-        opens ! tt u32 {h = n} b o (λ vs. spelt ! u32 (Is u32) (shows 𝓤 H A u32) (uint-vals w32) (uint-tells w32) fullShare n vs b o $ move ! (1 ∷ []) $ drop ! $ at-once ! $ done !)
+        opens ! tt u32 {h = n} b o (λ vs. spelt ! u32 (Is u32) (shows 𝓤 H A u32) (uint-vals w32) (uint-tells w32) fullShare n vs b o $ move ! (1 ∷ []) $ drop ! $ kit.now ! $ done !)
 
     pub count-shut : (m n : ℕ) → n < 2 ^ 32 → ent 𝓤 (sep 𝓤 (H .at fullShare (tyInt w32) b o (vint w32 n)) (Spread m)) (H .⇛ (Count n))
     unfolding Count Spread
     count-shut m n fits =
         qed W (‵ (fat fullShare (tyInt w32) b o (vint w32 n)) ∷ ‵ (fobor κ q (Body (mem u32) b o γ)) ∷ ‵ (fobs γ (u32 .coded .code m)) ∷ ‵ (fauth γ (u32 .coded .code m)) ∷ []) ∵ updating ! $
-        owned ! u32 (Is u32) (uint-makes 𝓤 H A W w32) n _ (refl, fits) $ move ! (1 ∷ 0 ∷ []) $ closes ! tt u32 n (vint w32 n ∷ []) b o $ at-once ! $ done !
+        owned ! u32 (Is u32) (uint-makes 𝓤 H A W w32) n _ (refl, fits) $ move ! (1 ∷ 0 ∷ []) $ closes ! tt u32 n (vint w32 n ∷ []) b o $ kit.now ! $ done !

@@ -26,7 +26,8 @@ use types.Kit.{Given, Item, ‵, raw, _⊛_, mean, _$_, _∵_, !, qed, move, use
 use types.Part.{Part}
 use denote.Laws.{Is}
 use denote.Shadow.{shadow}
-use denote.Array.{each as each-own, arrayVal, Array}
+use denote.Array as array
+use denote.Array.{arrayVal, Array}
 use denote.Index.{place, place-is}
 use denote.Struct.Field.{Field}
 use denote.Struct.Laws.{FLaws}
@@ -98,13 +99,13 @@ module _ (F : Field) (L : FLaws F) where
   vals-set (x ∷ ps) zero p = refl
   vals-set (x ∷ ps) (suc k) p = ap (λ (us : List Val). L .val (F .into x) ∷ us) (vals-set ps k p)
 
-  each-spelt : (ps : List (F .Value)) (us : List Val) → shadow (each-own (F .row .Denot) (F .row .own) (map (F .into) ps) us) → shadow (each-own (F .row .Denot) (F .row .own) (map (F .into) ps) (vals ps))
+  each-spelt : (ps : List (F .Value)) (us : List Val) → shadow (array.each (F .row .Denot) (F .row .own) (map (F .into) ps) us) → shadow (array.each (F .row .Denot) (F .row .own) (map (F .into) ps) (vals ps))
   each-spelt [] us s = tt
   each-spelt (x ∷ ps) [] s = absurd s
   each-spelt (x ∷ ps) (u ∷ us) s = (subst (λ (vs : List Val). Is (F .row) (F .into x) vs) (L .tells (F .into x) (u ∷ []) (s .0)) (s .0), each-spelt ps us (s .1))
 
-  each-set : (ps : List (F .Value)) (us : List Val) (k : ℕ) (p : F .Value) → shadow (each-own (F .row .Denot) (F .row .own) (map (F .into) ps) us) → Is (F .row) (F .into p) (L .val (F .into p) ∷ [])
-      → shadow (each-own (F .row .Denot) (F .row .own) (map (F .into) (set ps k p)) (vals (set ps k p)))
+  each-set : (ps : List (F .Value)) (us : List Val) (k : ℕ) (p : F .Value) → shadow (array.each (F .row .Denot) (F .row .own) (map (F .into) ps) us) → Is (F .row) (F .into p) (L .val (F .into p) ∷ [])
+      → shadow (array.each (F .row .Denot) (F .row .own) (map (F .into) (set ps k p)) (vals (set ps k p)))
   each-set [] us k p s is = tt
   each-set (x ∷ ps) [] k p s is = absurd s
   each-set (x ∷ ps) (u ∷ us) zero p s is = (is, each-spelt ps us (s .1))
@@ -123,7 +124,7 @@ module _ (F : Field) (L : FLaws F) where
   vals-get (x ∷ ps) zero d lt = refl
   vals-get (x ∷ ps) (suc k) d lt = vals-get ps k d (le-of-suc-le-suc lt)
 
-  each-get : (ps : List (F .Value)) (us : List Val) (k : ℕ) (d : F .Value) → k < length (vals ps) → shadow (each-own (F .row .Denot) (F .row .own) (map (F .into) ps) us) → Is (F .row) (F .into (getD ps k d)) (L .val (F .into (getD ps k d)) ∷ [])
+  each-get : (ps : List (F .Value)) (us : List Val) (k : ℕ) (d : F .Value) → k < length (vals ps) → shadow (array.each (F .row .Denot) (F .row .own) (map (F .into) ps) us) → Is (F .row) (F .into (getD ps k d)) (L .val (F .into (getD ps k d)) ∷ [])
   each-get [] us k d lt s = absurd (not-suc-le-zero lt)
   each-get (x ∷ ps) [] k d lt s = absurd s
   each-get (x ∷ ps) (u ∷ us) zero d lt s = subst (λ (vs : List Val). Is (F .row) (F .into x) vs) (L .tells (F .into x) (u ∷ []) (s .0)) (s .0)

@@ -8,7 +8,7 @@ use contract.Lifetimes.{Lfts}
 use contract.Monad.{Fun}
 use contract.Notation.{Connectives, connectives}
 use denote.Ref.{now}
-use denote.Triple.Clauses.{Ended, Clauses, AtExit, closing}
+use denote.Triple.Clauses.{Ended, AtExit, closing}
 use denote.Triple.Entry.{Args, Res}
 use denote.Triple.Spec.{Spec}
 use ghost.Atoms.{Atoms}
@@ -22,15 +22,19 @@ use Rattle.d3d9_model.specs.Operations.{Operation, setTransform, multiplyTransf
 use Rattle.image.specs.Read.{readImage, readNumber}
 use Rattle.image.specs.Write.{writeImage, writeNumber}
 use Rattle.ff_state.specs.State.{freshState}
+use Rattle.ff_state.specs.Dirty.{takeFfVsDirty}
+use Rattle.ff_state.specs.Active.{vsSourceLightInputs}
 use Rattle.ff_state.specs.Operate.{operate}
 use Rattle.ff_state.specs.declared.state.FfState.{FfState}
 use Rattle.lent_state.proofs.ff_state_fresh as lent-fresh
 use Rattle.lent_state.proofs.ff_state_mark_ff_vs_dirty as lent-mark
+use Rattle.lent_state.proofs.ff_state_take_ff_vs_dirty as lent-take
 use Rattle.lent_state.proofs.ff_state_set_material as lent-material
 use Rattle.lent_state.proofs.ff_state_set_transform as lent-set
 use Rattle.lent_state.proofs.ff_state_multiply_transform as lent-multiply
 use Rattle.lent_lights.proofs.ff_state_set_light_at as lent-light
 use Rattle.lent_lights.proofs.ff_state_set_light_enabled_at as lent-enable
+use Rattle.lent_lights.proofs.ff_state_vs_source_light_inputs as lent-inputs
 use Rattle.lent_images.proofs.ff_state_read_image as lent-read
 use Rattle.lent_images.proofs.ff_state_write_image as lent-write
 use Rattle.lent_refresh.specs.Mirror.{LentRefreshed, left, told, lentRefresh}
@@ -62,6 +66,12 @@ module _ {M : Type 1} (𝓤 : URA M) (H : Heap 𝓤) (A : Atoms 𝓤) (mem : Mem
   unfolding operate
   lent-mark-anchored = refl
 
+  -- a take is no operation of a list; it is the take by value
+  pub lent-take-anchored : lent-take.spec 𝓤 H A mem run ≡ says lent-take.ended (λ κs a r e.
+      let t = takeFfVsDirty (now (a .0)) in
+      _≡_ {A = ℕ × ℕ × FfState} (r, now (e .1 .0), now (e .0)) (0, t .bits, t .state))
+  lent-take-anchored = refl
+
   pub lent-material-anchored : lent-material.spec 𝓤 H A mem run ≡ says lent-material.ended (λ κs a r e. operates (now (a .0)) (setMaterial (now (a .1 .0))) r (now (e .0)))
   unfolding operate
   lent-material-anchored = refl
@@ -83,6 +93,9 @@ module _ {M : Type 1} (𝓤 : URA M) (H : Heap 𝓤) (A : Atoms 𝓤) (mem : Mem
   unfolding operate
   lent-enable-anchored = refl
 
+  pub lent-inputs-anchored : lent-inputs.spec 𝓤 H A mem run ≡ says lent-inputs.ended (λ κs a r e. _≡_ {A = ℕ × ℕ} (r, now (e .1 .0)) (0, vsSourceLightInputs (now (a .0))))
+  lent-inputs-anchored = refl
+
   -- ---- images
 
   pub lent-read-anchored : lent-read.spec 𝓤 H A mem run ≡ says lent-read.ended (λ κs a r e.
@@ -99,5 +112,5 @@ module _ {M : Type 1} (𝓤 : URA M) (H : Heap 𝓤) (A : Atoms 𝓤) (mem : Mem
 
   pub lent-refresh-anchored : lent-refresh.spec 𝓤 H A mem run ≡ says lent-refresh.ended (λ κs a r e.
       left r (now (e .0)) (now (e .1 .1 .1 .1 .1 .1 .1 .1 .0)) (now (e .1 .1 .1 .1 .1 .1 .1 .1 .1 .0)) ≡ asLent (ours .byValue (now (a .0)) (keyOf (a .1 .0) (a .1 .1 .0) (a .1 .1 .1 .0) (a .1 .1 .1 .1 .0) (a .1 .1 .1 .1 .1 .0) (a .1 .1 .1 .1 .1 .1 .0) (a .1 .1 .1 .1 .1 .1 .1 .0)) (now (a .1 .1 .1 .1 .1 .1 .1 .1 .0))) (now (a .1 .1 .1 .1 .1 .1 .1 .1 .1 .0)))
-  unfolding lentRefresh ours
+  unfolding lentRefresh
   lent-refresh-anchored = refl

@@ -56,13 +56,11 @@ use Rattle.lent_lights.specs.Table.{ffStateChangeTable}
 use Rattle.lent_lights.proofs.Entries.{table-sets}
 use Rattle.lent_lights.proofs.slots.store_slot as slot
 use Rattle.lent_lights.proofs.slots.store_slot.Symbol as slot-def
-use Rattle.lent_lights.proofs.slots.store_slot.Symbol.{name as #store-slot}
 use Rattle.lent_lights.proofs.slots.store_slot.Met as slot-thm
 use Rattle.lent_lights.proofs.table.change_table as far
 use Rattle.lent_lights.proofs.table.change_table.Symbol as far-def
-use Rattle.lent_lights.proofs.table.change_table.Symbol.{name as #change-table}
 use Rattle.lent_lights.proofs.table.change_table.Met as far-thm
-use Rattle.lent_lights.proofs.lights.ff_state_set_light_at.Key.{name as #ff-state-set-light-at}
+use Rattle.lent_lights.proofs.lights.ff_state_set_light_at.Key as ff-state-set-light-at-key
 use Rattle.lent_lights.proofs.lights.ff_state_set_light_at as f
 use Rattle.lent_lights.proofs.lights.ff_state_set_light_at.Statement as stated
 use Rattle.lent_lights.proofs.lights.ff_state_set_light_at.Code as code
@@ -90,7 +88,7 @@ module _ {M : Type 1} (𝓤 : URA M) (H : Heap 𝓤) (A : Atoms 𝓤) (W : Given
       suffices ! _ (ends-at 𝓤 H A f.ended stayed (f.clauses 𝓤 H A at-mem run) W (((κ₀, (κ₁, tt)), (q₀, (q₁, tt)), tt, x, at), tt) (vint w32 r) r (z, (tt, (tt, tt))) (tt, (tt, (tt, tt)))) $ says ! e $ nothing ! $ move ! (4 ∷ 0 ∷ []) $ join ! $ move ! (3 ∷ 0 ∷ []) $ join ! $ frame ! $
       nothing ! $ move ! (4 ∷ 3 ∷ []) $ feqI ! (List Val) (vptr b₁ o₁ ∷ []) (vptr b₁ o₁ ∷ []) refl $ fjoin3 ! $ fjoin ! $ owned ! u32 (Is u32) (uint-makes 𝓤 H A W w32) n _ (refl, n-fits) $ fjoin ! $ move ! (1 ∷ 2 ∷ []) $ feqI ! (List Val) (vptr b₀ o₀ ∷ []) (vptr b₀ o₀ ∷ []) refl $ fjoin3 ! $ fjoin ! $ owned ! u32 (Is u32) (uint-makes 𝓤 H A W w32) r _ (refl, fits) $ move ! (1 ∷ 0 ∷ []) $ done !
 
-  module _ (C : Calls 𝓤 H) (Λ : Loops 𝓤 H) (fm : FmC 𝓤 H (W .laws) C) (known-slot : Triple 𝓤 (C #store-slot) (Store 𝓤 H A at-mem run)) (known-far : Triple 𝓤 (C #change-table) (Far 𝓤 H A at-mem run)) where
+  module _ (C : Calls 𝓤 H) (Λ : Loops 𝓤 H) (fm : FmC 𝓤 H (W .laws) C) (known-slot : Triple 𝓤 (C slot-def.name) (Store 𝓤 H A at-mem run)) (known-far : Triple 𝓤 (C far-def.name) (Far 𝓤 H A at-mem run)) where
     walk : ent 𝓤 (onEntry 𝓤 H A f.signature (κ₀, (κ₁, tt)) (q₀, (q₁, tt)) x at) (WpFn 𝓤 H C Λ code.function (vptr b₀ o₀ ∷ vint w32 n ∷ vptr b₁ o₁ ∷ []) Post)
     walk =
         qed W ((‵ (flft κ₀ q₀) ⊛ ‵ (flft κ₁ q₁) ⊛ ‵ ftrue) ∷ ‵ (owns (MutRef (named 0) κ₀ St.the-row ∷ u32 ∷ ShrRef (named 1) κ₁ Lt.the-row ∷ []) x at) ∷ []) ∵ split ! $ move ! (1 ∷ []) $ split ! $ move ! (3 ∷ []) $ fsplit ! $ fsplit3 ! $ drop ! $ move ! (2 ∷ []) $ fsplit ! $ drop ! $ fsplit ! $ fsplit3 ! $ drop ! $ keep ! (3 ∷ 4 ∷ 7 ∷ 1 ∷ 5 ∷ 0 ∷ []) $
@@ -153,11 +151,11 @@ module _ {M : Type 1} (𝓤 : URA M) (H : Heap 𝓤) (A : Atoms 𝓤) (W : Given
         keep ! (0 ∷ 1 ∷ 2 ∷ 5 ∷ 6 ∷ 7 ∷ []) $ by ! (exits k (ys .0) (k-is .1) (is ∙ table-sets h n (nltb→le n 8 off) m))))))))))))))))))))))
 
 module _ {M : Type 1} (𝓤 : URA M) (H : Heap 𝓤) (A : Atoms 𝓤) (W : Given 𝓤 H A) (mem : Memory → SProp 𝓤) (run : Routine → Fun 𝓤) where
-  walks : (C : Calls 𝓤 H) (Λ : Loops 𝓤 H) → FmC 𝓤 H (W .laws) C → Triple 𝓤 (C #store-slot) (Store 𝓤 H A mem run) → Triple 𝓤 (C #change-table) (Far 𝓤 H A mem run) → Walks 𝓤 H A f.ended stayed (WpFn 𝓤 H C Λ code.function) (f.clauses 𝓤 H A mem run)
+  walks : (C : Calls 𝓤 H) (Λ : Loops 𝓤 H) → FmC 𝓤 H (W .laws) C → Triple 𝓤 (C slot-def.name) (Store 𝓤 H A mem run) → Triple 𝓤 (C far-def.name) (Far 𝓤 H A mem run) → Walks 𝓤 H A f.ended stayed (WpFn 𝓤 H C Λ code.function) (f.clauses 𝓤 H A mem run)
   walks C Λ fm known-slot known-far = walked 𝓤 H A f.ended stayed (f.clauses 𝓤 H A mem run) (WpFn 𝓤 H C Λ code.function) (λ κs. (ptr-vals, (uint-vals w32, (ptr-vals, tt)))) (λ κs. (mut-tells (named 0) (κs .0) St.the-row, (uint-tells w32, (shr-tells (named 1) (κs .1 .0) Lt.the-row, tt))))
       (λ κs qs bounds a g are. via 𝓤 _ (fst∗ 𝓤 _ (emp 𝓤)) (walk 𝓤 H A W mem run (κs .0) (κs .1 .0) (qs .0) (qs .1 .0) (a .0 .ptr .0) (a .0 .ptr .1) (a .0 .name) (a .0 .now) (a .1 .1 .0 .ptr .0) (a .1 .1 .0 .ptr .1) (a .1 .1 .0 .name) (a .1 .1 .0 .now) (a .1 .0) (are .1 .0 .1) C Λ fm known-slot known-far))
 
-meets : {M : Type 1} (𝓤 : URA M) (H : Heap 𝓤) (A : Atoms 𝓤) → Given 𝓤 H A → (mem : Memory → SProp 𝓤) (run : Routine → Fun 𝓤) (𝓣 : Tables 𝓤 H) → Triple 𝓤 (𝓣 .C #store-slot) (Store 𝓤 H A mem run) → Triple 𝓤 (𝓣 .C #change-table) (Far 𝓤 H A mem run)
+meets : {M : Type 1} (𝓤 : URA M) (H : Heap 𝓤) (A : Atoms 𝓤) → Given 𝓤 H A → (mem : Memory → SProp 𝓤) (run : Routine → Fun 𝓤) (𝓣 : Tables 𝓤 H) → Triple 𝓤 (𝓣 .C slot-def.name) (Store 𝓤 H A mem run) → Triple 𝓤 (𝓣 .C far-def.name) (Far 𝓤 H A mem run)
     → Meets 𝓤 H A f.signature (WpFn 𝓤 H (𝓣 .C) (𝓣 .Λ) code.function) (f.spec 𝓤 H A mem run)
 meets 𝓤 H A W mem run 𝓣 known-slot known-far =
     walk-meets 𝓤 H A f.ended stayed W (goes-ref 𝓤 H A W 2 0 tt (plain (λ _. St.the-row)), (goes-none 𝓤 H A W 2 (λ _. u32) yes (λ κs x f. refl), (goes-none-ref 𝓤 H A W 2 (1 ∷ []) tt (plain (λ _. Lt.the-row)) yes, tt))) (f.clauses 𝓤 H A mem run)
@@ -167,7 +165,7 @@ pub ff-state-set-light-at-spec : {M : Type 1} → stated.statement M
 unfolding code.routine tablesOf
 ff-state-set-light-at-spec 𝓤 H 𝓜 𝓖 𝓡 =
     entered 𝓤 H (tripleOf 𝓤 H (𝓖 .A) f.signature (f.spec 𝓤 H (𝓖 .A) (𝓜 .mem) (𝓡 .run)))
-    (tables 𝓤 H 𝓜 𝓡 code.env .C) (tables 𝓤 H 𝓜 𝓡 code.env .Λ) #ff-state-set-light-at code.function (code.unfolded 𝓤 H 𝓜 𝓡)
+    (tables 𝓤 H 𝓜 𝓡 code.env .C) (tables 𝓤 H 𝓜 𝓡 code.env .Λ) ff-state-set-light-at-key.name code.function (code.unfolded 𝓤 H 𝓜 𝓡)
     (meets 𝓤 H (𝓖 .A) (givenOf 𝓤 H 𝓜 𝓖) (𝓜 .mem) (𝓡 .run) (tablesOf 𝓤 H 𝓜 (tables 𝓤 H 𝓜 𝓡 code.env))
-    (cited 𝓤 H (Store 𝓤 H (𝓖 .A) (𝓜 .mem) (𝓡 .run)) 𝓜 𝓡 code.env #store-slot slot-def.routine code.calls-lent-lights·slots·store-slot (slot-thm.met 𝓤 H 𝓜 𝓖 𝓡))
-    (cited 𝓤 H (Far 𝓤 H (𝓖 .A) (𝓜 .mem) (𝓡 .run)) 𝓜 𝓡 code.env #change-table far-def.routine code.calls-lent-lights·table·change-table (far-thm.met 𝓤 H 𝓜 𝓖 𝓡)))
+    (cited 𝓤 H (Store 𝓤 H (𝓖 .A) (𝓜 .mem) (𝓡 .run)) 𝓜 𝓡 code.env slot-def.name slot-def.routine code.calls-lent-lights·slots·store-slot (slot-thm.met 𝓤 H 𝓜 𝓖 𝓡))
+    (cited 𝓤 H (Far 𝓤 H (𝓖 .A) (𝓜 .mem) (𝓡 .run)) 𝓜 𝓡 code.env far-def.name far-def.routine code.calls-lent-lights·table·change-table (far-thm.met 𝓤 H 𝓜 𝓖 𝓡)))

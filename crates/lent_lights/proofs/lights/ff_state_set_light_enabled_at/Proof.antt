@@ -57,17 +57,14 @@ use Rattle.lent_lights.specs.Table.{ffStateChangeTable}
 use Rattle.lent_lights.proofs.Entries.{byte-small, table-enables}
 use Rattle.lent_lights.proofs.slots.enable_slot as enable
 use Rattle.lent_lights.proofs.slots.enable_slot.Symbol as enable-def
-use Rattle.lent_lights.proofs.slots.enable_slot.Symbol.{name as #enable-slot}
 use Rattle.lent_lights.proofs.slots.enable_slot.Met as enable-thm
 use Rattle.d3d9_types.proofs.default_light as default
 use Rattle.d3d9_types.proofs.default_light.Symbol as default-def
-use Rattle.d3d9_types.proofs.default_light.Symbol.{name as #default-light}
 use Rattle.d3d9_types.proofs.default_light.Met as default-thm
 use Rattle.lent_lights.proofs.table.change_table as far
 use Rattle.lent_lights.proofs.table.change_table.Symbol as far-def
-use Rattle.lent_lights.proofs.table.change_table.Symbol.{name as #change-table}
 use Rattle.lent_lights.proofs.table.change_table.Met as far-thm
-use Rattle.lent_lights.proofs.lights.ff_state_set_light_enabled_at.Key.{name as #ff-state-set-light-enabled-at}
+use Rattle.lent_lights.proofs.lights.ff_state_set_light_enabled_at.Key as ff-state-set-light-enabled-at-key
 use Rattle.lent_lights.proofs.lights.ff_state_set_light_enabled_at as f
 use Rattle.lent_lights.proofs.lights.ff_state_set_light_enabled_at.Statement as stated
 use Rattle.lent_lights.proofs.lights.ff_state_set_light_enabled_at.Code as code
@@ -95,7 +92,7 @@ module _ {M : Type 1} (𝓤 : URA M) (H : Heap 𝓤) (A : Atoms 𝓤) (W : Given
       suffices ! _ (ends-at 𝓤 H A f.ended stayed (f.clauses 𝓤 H A at-mem run) W (((κ, tt), (q, tt), tt, x, at), tt) (vint w32 r) r (z, (tt, (tt, tt))) (tt, (tt, (tt, tt)))) $ says ! e $ nothing ! $ move ! (3 ∷ 0 ∷ []) $ join ! $ frame ! $
       nothing ! $ owned ! u32 (Is u32) (uint-makes 𝓤 H A W w32) j _ (refl, j-fits) $ fjoin ! $ owned ! u32 (Is u32) (uint-makes 𝓤 H A W w32) n _ (refl, n-fits) $ fjoin ! $ move ! (1 ∷ 2 ∷ []) $ feqI ! (List Val) (vptr b o ∷ []) (vptr b o ∷ []) refl $ fjoin3 ! $ fjoin ! $ owned ! u32 (Is u32) (uint-makes 𝓤 H A W w32) r _ (refl, fits) $ move ! (1 ∷ 0 ∷ []) $ done !
 
-  module _ (C : Calls 𝓤 H) (Λ : Loops 𝓤 H) (fm : FmC 𝓤 H (W .laws) C) (known-enable : Triple 𝓤 (C #enable-slot) (Enable 𝓤 H A at-mem run)) (known-default : Triple 𝓤 (C #default-light) (Default 𝓤 H A at-mem run)) (known-far : Triple 𝓤 (C #change-table) (Far 𝓤 H A at-mem run)) where
+  module _ (C : Calls 𝓤 H) (Λ : Loops 𝓤 H) (fm : FmC 𝓤 H (W .laws) C) (known-enable : Triple 𝓤 (C enable-def.name) (Enable 𝓤 H A at-mem run)) (known-default : Triple 𝓤 (C default-def.name) (Default 𝓤 H A at-mem run)) (known-far : Triple 𝓤 (C far-def.name) (Far 𝓤 H A at-mem run)) where
     walk : ent 𝓤 (onEntry 𝓤 H A f.signature (κ, tt) (q, tt) x at) (WpFn 𝓤 H C Λ code.function (vptr b o ∷ vint w32 n ∷ vint w32 j ∷ []) Post)
     walk =
         qed W ((‵ (flft κ q) ⊛ ‵ ftrue) ∷ ‵ (owns (MutRef (named 0) κ St.the-row ∷ u32 ∷ u32 ∷ []) x at) ∷ []) ∵ split ! $ move ! (2 ∷ []) $ fsplit ! $ fsplit3 ! $ drop ! $ move ! (2 ∷ []) $ fsplit ! $ drop ! $ fsplit ! $ drop ! $ keep ! (1 ∷ 2 ∷ 3 ∷ []) $
@@ -158,11 +155,11 @@ module _ {M : Type 1} (𝓤 : URA M) (H : Heap 𝓤) (A : Atoms 𝓤) (W : Given
         keep ! (0 ∷ 1 ∷ 2 ∷ []) $ by ! (exits k (ys .0) (k-is .1) (is ∙ table-enables h n (nltb→le n 8 off) m j same))))))))))))))))))))))))
 
 module _ {M : Type 1} (𝓤 : URA M) (H : Heap 𝓤) (A : Atoms 𝓤) (W : Given 𝓤 H A) (mem : Memory → SProp 𝓤) (run : Routine → Fun 𝓤) where
-  walks : (C : Calls 𝓤 H) (Λ : Loops 𝓤 H) → FmC 𝓤 H (W .laws) C → Triple 𝓤 (C #enable-slot) (Enable 𝓤 H A mem run) → Triple 𝓤 (C #default-light) (Default 𝓤 H A mem run) → Triple 𝓤 (C #change-table) (Far 𝓤 H A mem run) → Walks 𝓤 H A f.ended stayed (WpFn 𝓤 H C Λ code.function) (f.clauses 𝓤 H A mem run)
+  walks : (C : Calls 𝓤 H) (Λ : Loops 𝓤 H) → FmC 𝓤 H (W .laws) C → Triple 𝓤 (C enable-def.name) (Enable 𝓤 H A mem run) → Triple 𝓤 (C default-def.name) (Default 𝓤 H A mem run) → Triple 𝓤 (C far-def.name) (Far 𝓤 H A mem run) → Walks 𝓤 H A f.ended stayed (WpFn 𝓤 H C Λ code.function) (f.clauses 𝓤 H A mem run)
   walks C Λ fm known-enable known-default known-far = walked 𝓤 H A f.ended stayed (f.clauses 𝓤 H A mem run) (WpFn 𝓤 H C Λ code.function) (λ κs. (ptr-vals, (uint-vals w32, (uint-vals w32, tt)))) (λ κs. (mut-tells (named 0) (κs .0) St.the-row, (uint-tells w32, (uint-tells w32, tt))))
       (λ κs qs bounds a g are. via 𝓤 _ (fst∗ 𝓤 _ (emp 𝓤)) (walk 𝓤 H A W mem run (κs .0) (qs .0) (a .0 .ptr .0) (a .0 .ptr .1) (a .0 .name) (a .0 .now) (a .1 .0) (a .1 .1 .0) (are .1 .0 .1) (are .1 .1 .0 .1) C Λ fm known-enable known-default known-far))
 
-meets : {M : Type 1} (𝓤 : URA M) (H : Heap 𝓤) (A : Atoms 𝓤) → Given 𝓤 H A → (mem : Memory → SProp 𝓤) (run : Routine → Fun 𝓤) (𝓣 : Tables 𝓤 H) → Triple 𝓤 (𝓣 .C #enable-slot) (Enable 𝓤 H A mem run) → Triple 𝓤 (𝓣 .C #default-light) (Default 𝓤 H A mem run) → Triple 𝓤 (𝓣 .C #change-table) (Far 𝓤 H A mem run)
+meets : {M : Type 1} (𝓤 : URA M) (H : Heap 𝓤) (A : Atoms 𝓤) → Given 𝓤 H A → (mem : Memory → SProp 𝓤) (run : Routine → Fun 𝓤) (𝓣 : Tables 𝓤 H) → Triple 𝓤 (𝓣 .C enable-def.name) (Enable 𝓤 H A mem run) → Triple 𝓤 (𝓣 .C default-def.name) (Default 𝓤 H A mem run) → Triple 𝓤 (𝓣 .C far-def.name) (Far 𝓤 H A mem run)
     → Meets 𝓤 H A f.signature (WpFn 𝓤 H (𝓣 .C) (𝓣 .Λ) code.function) (f.spec 𝓤 H A mem run)
 meets 𝓤 H A W mem run 𝓣 known-enable known-default known-far =
     walk-meets 𝓤 H A f.ended stayed W (goes-ref 𝓤 H A W 1 0 tt (plain (λ _. St.the-row)), (goes-none 𝓤 H A W 1 (λ _. u32) yes (λ κs x f. refl), (goes-none 𝓤 H A W 1 (λ _. u32) yes (λ κs x f. refl), tt))) (f.clauses 𝓤 H A mem run)
@@ -172,8 +169,8 @@ pub ff-state-set-light-enabled-at-spec : {M : Type 1} → stated.statement M
 unfolding code.routine tablesOf
 ff-state-set-light-enabled-at-spec 𝓤 H 𝓜 𝓖 𝓡 =
     entered 𝓤 H (tripleOf 𝓤 H (𝓖 .A) f.signature (f.spec 𝓤 H (𝓖 .A) (𝓜 .mem) (𝓡 .run)))
-    (tables 𝓤 H 𝓜 𝓡 code.env .C) (tables 𝓤 H 𝓜 𝓡 code.env .Λ) #ff-state-set-light-enabled-at code.function (code.unfolded 𝓤 H 𝓜 𝓡)
+    (tables 𝓤 H 𝓜 𝓡 code.env .C) (tables 𝓤 H 𝓜 𝓡 code.env .Λ) ff-state-set-light-enabled-at-key.name code.function (code.unfolded 𝓤 H 𝓜 𝓡)
     (meets 𝓤 H (𝓖 .A) (givenOf 𝓤 H 𝓜 𝓖) (𝓜 .mem) (𝓡 .run) (tablesOf 𝓤 H 𝓜 (tables 𝓤 H 𝓜 𝓡 code.env))
-    (cited 𝓤 H (Enable 𝓤 H (𝓖 .A) (𝓜 .mem) (𝓡 .run)) 𝓜 𝓡 code.env #enable-slot enable-def.routine code.calls-lent-lights·slots·enable-slot (enable-thm.met 𝓤 H 𝓜 𝓖 𝓡))
-    (cited 𝓤 H (Default 𝓤 H (𝓖 .A) (𝓜 .mem) (𝓡 .run)) 𝓜 𝓡 code.env #default-light default-def.routine code.calls-d3d9-types·default-light (default-thm.met 𝓤 H 𝓜 𝓖 𝓡))
-    (cited 𝓤 H (Far 𝓤 H (𝓖 .A) (𝓜 .mem) (𝓡 .run)) 𝓜 𝓡 code.env #change-table far-def.routine code.calls-lent-lights·table·change-table (far-thm.met 𝓤 H 𝓜 𝓖 𝓡)))
+    (cited 𝓤 H (Enable 𝓤 H (𝓖 .A) (𝓜 .mem) (𝓡 .run)) 𝓜 𝓡 code.env enable-def.name enable-def.routine code.calls-lent-lights·slots·enable-slot (enable-thm.met 𝓤 H 𝓜 𝓖 𝓡))
+    (cited 𝓤 H (Default 𝓤 H (𝓖 .A) (𝓜 .mem) (𝓡 .run)) 𝓜 𝓡 code.env default-def.name default-def.routine code.calls-d3d9-types·default-light (default-thm.met 𝓤 H 𝓜 𝓖 𝓡))
+    (cited 𝓤 H (Far 𝓤 H (𝓖 .A) (𝓜 .mem) (𝓡 .run)) 𝓜 𝓡 code.env far-def.name far-def.routine code.calls-lent-lights·table·change-table (far-thm.met 𝓤 H 𝓜 𝓖 𝓡)))

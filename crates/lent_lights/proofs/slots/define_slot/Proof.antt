@@ -60,17 +60,14 @@ use Rattle.ff_state.specs.Slots.{setSlot, defineSlot}
 use Rattle.lent_state.proofs.Rest.{behind, env}
 use Rattle.words.proofs.has_bit as has
 use Rattle.words.proofs.has_bit.Symbol as has-def
-use Rattle.words.proofs.has_bit.Symbol.{name as #has-bit}
 use Rattle.words.proofs.has_bit.Met as has-thm
 use Rattle.d3d9_types.proofs.default_light as default
 use Rattle.d3d9_types.proofs.default_light.Symbol as default-def
-use Rattle.d3d9_types.proofs.default_light.Symbol.{name as #default-light}
 use Rattle.d3d9_types.proofs.default_light.Met as default-thm
 use Rattle.lent_lights.proofs.slots.store_slot as slot
 use Rattle.lent_lights.proofs.slots.store_slot.Symbol as slot-def
-use Rattle.lent_lights.proofs.slots.store_slot.Symbol.{name as #store-slot}
 use Rattle.lent_lights.proofs.slots.store_slot.Met as slot-thm
-use Rattle.lent_lights.proofs.slots.define_slot.Key.{name as #define-slot}
+use Rattle.lent_lights.proofs.slots.define_slot.Key as define-slot-key
 use Rattle.lent_lights.proofs.slots.define_slot as f
 use Rattle.lent_lights.proofs.slots.define_slot.Statement as stated
 use Rattle.lent_lights.proofs.slots.define_slot.Code as code
@@ -107,7 +104,7 @@ module _ {M : Type 1} (𝓤 : URA M) (H : Heap 𝓤) (A : Atoms 𝓤) (W : Given
       suffices ! _ (ends-at 𝓤 H A f.ended stayed (f.clauses 𝓤 H A at-mem run) W (((κ, tt), (q, tt), tt, x, at), tt) vunit tt (z, (tt, tt)) (tt, (tt, tt))) $ says ! e $ nothing ! $ move ! (3 ∷ 0 ∷ []) $ join ! $ frame ! $
       nothing ! $ owned ! u32 (Is u32) (uint-makes 𝓤 H A W w32) n _ (refl, n-fits) $ fjoin ! $ move ! (1 ∷ 2 ∷ []) $ feqI ! (List Val) (vptr b o ∷ []) (vptr b o ∷ []) refl $ fjoin3 ! $ fjoin ! $ feqI ! (List Val) (vunit ∷ []) (vunit ∷ []) refl $ move ! (1 ∷ 0 ∷ []) $ done !
 
-  module _ (C : Calls 𝓤 H) (Λ : Loops 𝓤 H) (fm : FmC 𝓤 H (W .laws) C) (known-has : Triple 𝓤 (C #has-bit) (Has 𝓤 H A at-mem run)) (known-default : Triple 𝓤 (C #default-light) (Default 𝓤 H A at-mem run)) (known-slot : Triple 𝓤 (C #store-slot) (Store 𝓤 H A at-mem run)) where
+  module _ (C : Calls 𝓤 H) (Λ : Loops 𝓤 H) (fm : FmC 𝓤 H (W .laws) C) (known-has : Triple 𝓤 (C has-def.name) (Has 𝓤 H A at-mem run)) (known-default : Triple 𝓤 (C default-def.name) (Default 𝓤 H A at-mem run)) (known-slot : Triple 𝓤 (C slot-def.name) (Store 𝓤 H A at-mem run)) where
     walk : n < 8 → ent 𝓤 (onEntry 𝓤 H A f.signature (κ, tt) (q, tt) x at) (WpFn 𝓤 H C Λ code.function (vptr b o ∷ vint w32 n ∷ []) Post)
     walk lt =
         qed W ((‵ (flft κ q) ⊛ ‵ ftrue) ∷ ‵ (owns (MutRef (named 0) κ St.the-row ∷ u32 ∷ []) x at) ∷ []) ∵ split ! $ move ! (2 ∷ []) $ fsplit ! $ fsplit3 ! $ drop ! $ move ! (2 ∷ []) $ fsplit ! $ drop ! $ keep ! (1 ∷ 2 ∷ 3 ∷ []) $
@@ -169,11 +166,11 @@ module _ {M : Type 1} (𝓤 : URA M) (H : Heap 𝓤) (A : Atoms 𝓤) (W : Given
         keep ! (0 ∷ 1 ∷ 2 ∷ []) $ by ! (exits (zs .0) (slot-made h n r m (zs .0) e none same is))))))))))))))))))))))))))))))
 
 module _ {M : Type 1} (𝓤 : URA M) (H : Heap 𝓤) (A : Atoms 𝓤) (W : Given 𝓤 H A) (mem : Memory → SProp 𝓤) (run : Routine → Fun 𝓤) where
-  walks : (C : Calls 𝓤 H) (Λ : Loops 𝓤 H) → FmC 𝓤 H (W .laws) C → Triple 𝓤 (C #has-bit) (Has 𝓤 H A mem run) → Triple 𝓤 (C #default-light) (Default 𝓤 H A mem run) → Triple 𝓤 (C #store-slot) (Store 𝓤 H A mem run) → Walks 𝓤 H A f.ended stayed (WpFn 𝓤 H C Λ code.function) (f.clauses 𝓤 H A mem run)
+  walks : (C : Calls 𝓤 H) (Λ : Loops 𝓤 H) → FmC 𝓤 H (W .laws) C → Triple 𝓤 (C has-def.name) (Has 𝓤 H A mem run) → Triple 𝓤 (C default-def.name) (Default 𝓤 H A mem run) → Triple 𝓤 (C slot-def.name) (Store 𝓤 H A mem run) → Walks 𝓤 H A f.ended stayed (WpFn 𝓤 H C Λ code.function) (f.clauses 𝓤 H A mem run)
   walks C Λ fm known-has known-default known-slot = walked 𝓤 H A f.ended stayed (f.clauses 𝓤 H A mem run) (WpFn 𝓤 H C Λ code.function) (λ κs. (ptr-vals, (uint-vals w32, tt))) (λ κs. (mut-tells (named 0) (κs .0) St.the-row, (uint-tells w32, tt)))
       (λ κs qs bounds a g are. needs 𝓤 (a .1 .0 < 8) _ (walk 𝓤 H A W mem run (κs .0) (qs .0) (a .0 .ptr .0) (a .0 .ptr .1) (a .0 .name) (a .0 .now) (a .1 .0) (are .1 .0 .1) C Λ fm known-has known-default known-slot))
 
-meets : {M : Type 1} (𝓤 : URA M) (H : Heap 𝓤) (A : Atoms 𝓤) → Given 𝓤 H A → (mem : Memory → SProp 𝓤) (run : Routine → Fun 𝓤) (𝓣 : Tables 𝓤 H) → Triple 𝓤 (𝓣 .C #has-bit) (Has 𝓤 H A mem run) → Triple 𝓤 (𝓣 .C #default-light) (Default 𝓤 H A mem run) → Triple 𝓤 (𝓣 .C #store-slot) (Store 𝓤 H A mem run)
+meets : {M : Type 1} (𝓤 : URA M) (H : Heap 𝓤) (A : Atoms 𝓤) → Given 𝓤 H A → (mem : Memory → SProp 𝓤) (run : Routine → Fun 𝓤) (𝓣 : Tables 𝓤 H) → Triple 𝓤 (𝓣 .C has-def.name) (Has 𝓤 H A mem run) → Triple 𝓤 (𝓣 .C default-def.name) (Default 𝓤 H A mem run) → Triple 𝓤 (𝓣 .C slot-def.name) (Store 𝓤 H A mem run)
     → Meets 𝓤 H A f.signature (WpFn 𝓤 H (𝓣 .C) (𝓣 .Λ) code.function) (f.spec 𝓤 H A mem run)
 meets 𝓤 H A W mem run 𝓣 known-has known-default known-slot =
     walk-meets 𝓤 H A f.ended stayed W (goes-ref 𝓤 H A W 1 0 tt (plain (λ _. St.the-row)), (goes-none 𝓤 H A W 1 (λ _. u32) yes (λ κs x f. refl), tt)) (f.clauses 𝓤 H A mem run)
@@ -183,8 +180,8 @@ pub define-slot-spec : {M : Type 1} → stated.statement M
 unfolding code.routine tablesOf
 define-slot-spec 𝓤 H 𝓜 𝓖 𝓡 =
     entered 𝓤 H (tripleOf 𝓤 H (𝓖 .A) f.signature (f.spec 𝓤 H (𝓖 .A) (𝓜 .mem) (𝓡 .run)))
-    (tables 𝓤 H 𝓜 𝓡 code.env .C) (tables 𝓤 H 𝓜 𝓡 code.env .Λ) #define-slot code.function (code.unfolded 𝓤 H 𝓜 𝓡)
+    (tables 𝓤 H 𝓜 𝓡 code.env .C) (tables 𝓤 H 𝓜 𝓡 code.env .Λ) define-slot-key.name code.function (code.unfolded 𝓤 H 𝓜 𝓡)
     (meets 𝓤 H (𝓖 .A) (givenOf 𝓤 H 𝓜 𝓖) (𝓜 .mem) (𝓡 .run) (tablesOf 𝓤 H 𝓜 (tables 𝓤 H 𝓜 𝓡 code.env))
-    (cited 𝓤 H (Has 𝓤 H (𝓖 .A) (𝓜 .mem) (𝓡 .run)) 𝓜 𝓡 code.env #has-bit has-def.routine code.calls-words·has-bit (has-thm.met 𝓤 H 𝓜 𝓖 𝓡))
-    (cited 𝓤 H (Default 𝓤 H (𝓖 .A) (𝓜 .mem) (𝓡 .run)) 𝓜 𝓡 code.env #default-light default-def.routine code.calls-d3d9-types·default-light (default-thm.met 𝓤 H 𝓜 𝓖 𝓡))
-    (cited 𝓤 H (Store 𝓤 H (𝓖 .A) (𝓜 .mem) (𝓡 .run)) 𝓜 𝓡 code.env #store-slot slot-def.routine code.calls-lent-lights·slots·store-slot (slot-thm.met 𝓤 H 𝓜 𝓖 𝓡)))
+    (cited 𝓤 H (Has 𝓤 H (𝓖 .A) (𝓜 .mem) (𝓡 .run)) 𝓜 𝓡 code.env has-def.name has-def.routine code.calls-words·has-bit (has-thm.met 𝓤 H 𝓜 𝓖 𝓡))
+    (cited 𝓤 H (Default 𝓤 H (𝓖 .A) (𝓜 .mem) (𝓡 .run)) 𝓜 𝓡 code.env default-def.name default-def.routine code.calls-d3d9-types·default-light (default-thm.met 𝓤 H 𝓜 𝓖 𝓡))
+    (cited 𝓤 H (Store 𝓤 H (𝓖 .A) (𝓜 .mem) (𝓡 .run)) 𝓜 𝓡 code.env slot-def.name slot-def.routine code.calls-lent-lights·slots·store-slot (slot-thm.met 𝓤 H 𝓜 𝓖 𝓡)))

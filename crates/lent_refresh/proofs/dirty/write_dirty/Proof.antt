@@ -21,14 +21,15 @@ use mir.Syntax.{named, erased, mut, w8, w32, w64, Sym, Ty, Tys, tnil, tcons, tyI
 use mir.Val.{Val, vunit, vint, vptr, WT, hasTy}
 use base.Logic.{SProp, ent, sep, ex, via, id⊢}
 use base.Fml.{GName, Lft, Share, ftrue, fat, flft, fobs, fbor}
-use mathlib.Core.Option.{some as known}
+use mathlib.Core.Option as option
 use prog.Memory.{Memory, fieldAt}
 use prog.Routine.{Routine}
 use prog.Wp.{Heap, Calls, Loops, WpFn, Tables}
 use ghost.Atoms.{Atoms}
 use contract.Monad.{Fun, fact}
 use contract.Running.{givenOf, tables, tablesOf}
-use types.Kit.{Given, ‵, raw, _⊛_, some, later, ⋆, _$_, _∵_, !, qed, by, move, keep, drop, group, use1, use2, use3, split, join, pick, rewrite, fsplit, fsplit3, fjoin, fjoin3, feqL, feqI, suffices, frame, await, updating, now as at-once, show, done}
+use types.Kit as kit
+use types.Kit.{Given, ‵, raw, _⊛_, some, later, ⋆, _$_, _∵_, !, qed, by, move, keep, drop, group, use1, use2, use3, split, join, pick, rewrite, fsplit, fsplit3, fjoin, fjoin3, feqL, feqI, suffices, frame, await, updating, show, done}
 use types.Run.{look, init, store, forget, stop, hop, fld, from, load, addr, lit, bin, un, and-then, no-more, of-opd, assigns, land, returns, enter, alloc1, alloc0, params1, pass1, pass0, free1, free0}
 use types.Part.{agg, whole, sub, look-in, store-in}
 use types.SemTy.{Body}
@@ -69,17 +70,14 @@ use Rattle.lent_refresh.proofs.Again as Slices
 use Rattle.lent_refresh.proofs.Cell.{Shut, Wide, Mirror, shut-in, mirror-in, unlock, lock}
 use Rattle.refresh_parts.proofs.write_small as small
 use Rattle.refresh_parts.proofs.write_small.Symbol as small-def
-use Rattle.refresh_parts.proofs.write_small.Symbol.{name as #small}
 use Rattle.refresh_parts.proofs.write_small.Met as small-thm
 use Rattle.lent_refresh.proofs.lights.write_lights_of as slots
 use Rattle.lent_refresh.proofs.lights.write_lights_of.Symbol as slots-def
-use Rattle.lent_refresh.proofs.lights.write_lights_of.Symbol.{name as #slots}
 use Rattle.lent_refresh.proofs.lights.write_lights_of.Met as slots-thm
 use Rattle.lent_refresh.proofs.palette.write_palette_of as worlds
 use Rattle.lent_refresh.proofs.palette.write_palette_of.Symbol as worlds-def
-use Rattle.lent_refresh.proofs.palette.write_palette_of.Symbol.{name as #worlds}
 use Rattle.lent_refresh.proofs.palette.write_palette_of.Met as worlds-thm
-use Rattle.lent_refresh.proofs.dirty.write_dirty.Key.{name as #f}
+use Rattle.lent_refresh.proofs.dirty.write_dirty.Key as f-key
 use Rattle.lent_refresh.proofs.dirty.write_dirty as f
 use Rattle.lent_refresh.proofs.dirty.write_dirty.Statement as stated
 use Rattle.lent_refresh.proofs.dirty.write_dirty.Code as code
@@ -95,7 +93,7 @@ codeOf σ nm tk tm tmat =
       outlives = [];
       params = 3;
       locals = local (tyInt w32) valueLocal ∷ local (tyRef (named 0) mut nm) valueLocal ∷ local tk valueLocal ∷ local (tyStruct (38 ∷ 91 ∷ 93 ∷ []) (tcons (tyRef (named 1) mut (tyFloat binary32)) (tcons (tyInt w64) tnil))) valueLocal ∷ local (tyInt w32) valueLocal ∷ local (tyInt w8) valueLocal ∷ local tyUnit valueLocal ∷ local tm valueLocal ∷ local tyPtr valueLocal ∷ local tyPtr valueLocal ∷ local tm valueLocal ∷ local tm valueLocal ∷ local tmat valueLocal ∷ local (tyRef erased mut (tyFloat binary32)) valueLocal ∷ local (tyStruct (38 ∷ 91 ∷ 93 ∷ []) (tcons (tyRef erased mut (tyFloat binary32)) (tcons (tyInt w64) tnil))) valueLocal ∷ local (tyRef erased mut nm) valueLocal ∷ local (tyRef erased mut (tyFloat binary32)) valueLocal ∷ local (tyStruct (38 ∷ 91 ∷ 93 ∷ []) (tcons (tyRef erased mut (tyFloat binary32)) (tcons (tyInt w64) tnil))) valueLocal ∷ local (tyRef erased mut nm) valueLocal ∷ local (tyRef erased mut (tyFloat binary32)) valueLocal ∷ local (tyStruct (38 ∷ 91 ∷ 93 ∷ []) (tcons (tyRef erased mut (tyFloat binary32)) (tcons (tyInt w64) tnil))) valueLocal ∷ [];
-      body = seq (assign (place 5 ([])) (rvOpd (copy (place 1 (deref σ ∷ field 14 ∷ []))))) (seq (assign (place 4 ([])) (op1 (cast unsigned unsigned w32) (copy (place 5 ([]))))) (seq (assign (place 1 (deref σ ∷ field 14 ∷ [])) (rvOpd (int w8 0))) (seq (assign (place 7 ([])) (rvOpd (copy (place 1 (deref σ ∷ field 0 ∷ []))))) (seq (assign (place 8 ([])) (addrOf (place 1 (deref σ ∷ field 2 ∷ [])))) (seq (assign (place 9 ([])) (op2 offset (copy (place 8 ([]))) (int w64 0))) (seq (assign (place 10 ([])) (rvOpd (copy (place 9 (deref tm ∷ []))))) (seq (assign (place 11 ([])) (rvOpd (copy (place 1 (deref σ ∷ field 1 ∷ []))))) (seq (assign (place 12 ([])) (rvOpd (copy (place 1 (deref σ ∷ field 5 ∷ []))))) (seq (assign (place 13 ([])) (addrOf (place 3 (field 0 ∷ deref (tyFloat binary32) ∷ [])))) (seq (assign (place 14 ([])) (aggregate (copy (place 13 ([])) ∷ copy (place 3 (field 1 ∷ [])) ∷ []))) (seq (call #small (copy (place 4 ([])) ∷ copy (place 2 ([])) ∷ copy (place 7 ([])) ∷ copy (place 10 ([])) ∷ copy (place 11 ([])) ∷ copy (place 12 ([])) ∷ copy (place 14 ([])) ∷ []) (place 6 ([]))) (seq (assign (place 15 ([])) (addrOf (place 1 (deref σ ∷ [])))) (seq (assign (place 16 ([])) (addrOf (place 3 (field 0 ∷ deref (tyFloat binary32) ∷ [])))) (seq (assign (place 17 ([])) (aggregate (copy (place 16 ([])) ∷ copy (place 3 (field 1 ∷ [])) ∷ []))) (seq (call #slots (copy (place 15 ([])) ∷ copy (place 4 ([])) ∷ copy (place 2 ([])) ∷ copy (place 17 ([])) ∷ []) (place 6 ([]))) (seq (assign (place 18 ([])) (addrOf (place 1 (deref σ ∷ [])))) (seq (assign (place 19 ([])) (addrOf (place 3 (field 0 ∷ deref (tyFloat binary32) ∷ [])))) (seq (assign (place 20 ([])) (aggregate (copy (place 19 ([])) ∷ copy (place 3 (field 1 ∷ [])) ∷ []))) (seq (call #worlds (copy (place 18 ([])) ∷ copy (place 4 ([])) ∷ copy (place 2 ([])) ∷ copy (place 20 ([])) ∷ []) (place 6 ([]))) (seq (assign (place 0 ([])) (rvOpd (copy (place 4 ([]))))) return))))))))))))))))))));
+      body = seq (assign (place 5 ([])) (rvOpd (copy (place 1 (deref σ ∷ field 14 ∷ []))))) (seq (assign (place 4 ([])) (op1 (cast unsigned unsigned w32) (copy (place 5 ([]))))) (seq (assign (place 1 (deref σ ∷ field 14 ∷ [])) (rvOpd (int w8 0))) (seq (assign (place 7 ([])) (rvOpd (copy (place 1 (deref σ ∷ field 0 ∷ []))))) (seq (assign (place 8 ([])) (addrOf (place 1 (deref σ ∷ field 2 ∷ [])))) (seq (assign (place 9 ([])) (op2 offset (copy (place 8 ([]))) (int w64 0))) (seq (assign (place 10 ([])) (rvOpd (copy (place 9 (deref tm ∷ []))))) (seq (assign (place 11 ([])) (rvOpd (copy (place 1 (deref σ ∷ field 1 ∷ []))))) (seq (assign (place 12 ([])) (rvOpd (copy (place 1 (deref σ ∷ field 5 ∷ []))))) (seq (assign (place 13 ([])) (addrOf (place 3 (field 0 ∷ deref (tyFloat binary32) ∷ [])))) (seq (assign (place 14 ([])) (aggregate (copy (place 13 ([])) ∷ copy (place 3 (field 1 ∷ [])) ∷ []))) (seq (call small-def.name (copy (place 4 ([])) ∷ copy (place 2 ([])) ∷ copy (place 7 ([])) ∷ copy (place 10 ([])) ∷ copy (place 11 ([])) ∷ copy (place 12 ([])) ∷ copy (place 14 ([])) ∷ []) (place 6 ([]))) (seq (assign (place 15 ([])) (addrOf (place 1 (deref σ ∷ [])))) (seq (assign (place 16 ([])) (addrOf (place 3 (field 0 ∷ deref (tyFloat binary32) ∷ [])))) (seq (assign (place 17 ([])) (aggregate (copy (place 16 ([])) ∷ copy (place 3 (field 1 ∷ [])) ∷ []))) (seq (call slots-def.name (copy (place 15 ([])) ∷ copy (place 4 ([])) ∷ copy (place 2 ([])) ∷ copy (place 17 ([])) ∷ []) (place 6 ([]))) (seq (assign (place 18 ([])) (addrOf (place 1 (deref σ ∷ [])))) (seq (assign (place 19 ([])) (addrOf (place 3 (field 0 ∷ deref (tyFloat binary32) ∷ [])))) (seq (assign (place 20 ([])) (aggregate (copy (place 19 ([])) ∷ copy (place 3 (field 1 ∷ [])) ∷ []))) (seq (call worlds-def.name (copy (place 18 ([])) ∷ copy (place 4 ([])) ∷ copy (place 2 ([])) ∷ copy (place 20 ([])) ∷ []) (place 6 ([]))) (seq (assign (place 0 ([])) (rvOpd (copy (place 4 ([]))))) return))))))))))))))))))));
     }
 
 abbrev Small : {M : Type 1} (𝓤 : URA M) (H : Heap 𝓤) (A : Atoms 𝓤) (mem : Memory → SProp 𝓤) (run : Routine → Fun 𝓤) → Contract 𝓤
@@ -243,7 +241,7 @@ module _ {M : Type 1} (𝓤 : URA M) (H : Heap 𝓤) (A : Atoms 𝓤) (W : Given
       move ! (0 ∷ 2 ∷ 1 ∷ []) $
       use3 W (later (‵ (MutSlice (named 1) κ′ f32 .own (at-ref b′ o′ γ′ (ws .1 .1 .1 .1 .1 .1 .0)) (sliceVal (b′, o′) (length l) ∷ [])) ⊛ ‵ (flft κ′ q′))) (Slices.comes-back f32 κ′ (ν′ ∷ []) q′ γ′ b′ o′ 𝓤 H A W (named 1) (named 1) l δ′ (ws .1 .1 .1 .1 .1 .1 .0) room same) $ await ! tt $ split ! $
       group ! 2 $
-      at-once ! $ show ! (λ (p : List Float). sep 𝓤 (⋆ 𝓤 H A (raw (Mirror 𝓤 H A κ′ q′ b′ o′ γ′ (length l) (p)) ∷ [])) (fact 𝓤 ((v ≡ vunit) × (((p) ≡ writtenSmall (dirtyWord h) k (h .view) (getD (h .«world_palette») 0 noMatrix) (h .projection) (h .material) (l)) × (length (p) ≡ length l))))) (ws .1 .1 .1 .1 .1 .1 .0) $ says ! ((ap only (nothing-tells r _ is), (e, same))) $
+      kit.now ! $ show ! (λ (p : List Float). sep 𝓤 (⋆ 𝓤 H A (raw (Mirror 𝓤 H A κ′ q′ b′ o′ γ′ (length l) (p)) ∷ [])) (fact 𝓤 ((v ≡ vunit) × (((p) ≡ writtenSmall (dirtyWord h) k (h .view) (getD (h .«world_palette») 0 noMatrix) (h .projection) (h .material) (l)) × (length (p) ≡ length l))))) (ws .1 .1 .1 .1 .1 .1 .0) $ says ! ((ap only (nothing-tells r _ is), (e, same))) $
       keep ! (0 ∷ []) $
       done !)))))
 
@@ -314,7 +312,7 @@ module _ {M : Type 1} (𝓤 : URA M) (H : Heap 𝓤) (A : Atoms 𝓤) (W : Given
       move ! (0 ∷ 3 ∷ 2 ∷ []) $
       use3 W (later (‵ (MutSlice (named 1) κ′ f32 .own (at-ref b′ o′ γ′ (ws .1 .1 .1 .0)) (sliceVal (b′, o′) (length l) ∷ [])) ⊛ ‵ (flft κ′ q′))) (Slices.comes-back f32 κ′ (ν′ ∷ []) q′ γ′ b′ o′ 𝓤 H A W (named 1) (named 1) l δ′ (ws .1 .1 .1 .0) room same) $ await ! tt $ split ! $
       group ! 2 $
-      at-once ! $ show ! (λ (p : List Float). sep 𝓤 (⋆ 𝓤 H A (raw (Shut 𝓤 H A κ q b o γ (withFfVsDirty h 0)) ∷ raw (Mirror 𝓤 H A κ′ q′ b′ o′ γ′ (length l) (p)) ∷ [])) (fact 𝓤 ((v ≡ vunit) × (((p) ≡ writtenSection Lights (dirtyWord h) (withFfVsDirty h 0) k (l)) × (length (p) ≡ length l))))) (ws .1 .1 .1 .0) $ says ! ((ap only (nothing-tells r _ is), (e .1, same))) $
+      kit.now ! $ show ! (λ (p : List Float). sep 𝓤 (⋆ 𝓤 H A (raw (Shut 𝓤 H A κ q b o γ (withFfVsDirty h 0)) ∷ raw (Mirror 𝓤 H A κ′ q′ b′ o′ γ′ (length l) (p)) ∷ [])) (fact 𝓤 ((v ≡ vunit) × (((p) ≡ writtenSection Lights (dirtyWord h) (withFfVsDirty h 0) k (l)) × (length (p) ≡ length l))))) (ws .1 .1 .1 .0) $ says ! ((ap only (nothing-tells r _ is), (e .1, same))) $
       keep ! (1 ∷ 0 ∷ []) $
       done !)))))
 
@@ -385,12 +383,12 @@ module _ {M : Type 1} (𝓤 : URA M) (H : Heap 𝓤) (A : Atoms 𝓤) (W : Given
       move ! (0 ∷ 3 ∷ 2 ∷ []) $
       use3 W (later (‵ (MutSlice (named 1) κ′ f32 .own (at-ref b′ o′ γ′ (ws .1 .1 .1 .0)) (sliceVal (b′, o′) (length l) ∷ [])) ⊛ ‵ (flft κ′ q′))) (Slices.comes-back f32 κ′ (ν′ ∷ []) q′ γ′ b′ o′ 𝓤 H A W (named 1) (named 1) l δ′ (ws .1 .1 .1 .0) room same) $ await ! tt $ split ! $
       group ! 2 $
-      at-once ! $ show ! (λ (p : List Float). sep 𝓤 (⋆ 𝓤 H A (raw (Shut 𝓤 H A κ q b o γ (withFfVsDirty h 0)) ∷ raw (Mirror 𝓤 H A κ′ q′ b′ o′ γ′ (length l) (p)) ∷ [])) (fact 𝓤 ((v ≡ vunit) × (((p) ≡ writtenSection Palette (dirtyWord h) (withFfVsDirty h 0) k (l)) × (length (p) ≡ length l))))) (ws .1 .1 .1 .0) $ says ! ((ap only (nothing-tells r _ is), (e .1, same))) $
+      kit.now ! $ show ! (λ (p : List Float). sep 𝓤 (⋆ 𝓤 H A (raw (Shut 𝓤 H A κ q b o γ (withFfVsDirty h 0)) ∷ raw (Mirror 𝓤 H A κ′ q′ b′ o′ γ′ (length l) (p)) ∷ [])) (fact 𝓤 ((v ≡ vunit) × (((p) ≡ writtenSection Palette (dirtyWord h) (withFfVsDirty h 0) k (l)) × (length (p) ≡ length l))))) (ws .1 .1 .1 .0) $ says ! ((ap only (nothing-tells r _ is), (e .1, same))) $
       keep ! (1 ∷ 0 ∷ []) $
       done !)))))
 
-  module _ (C : Calls 𝓤 H) (fm : FmC 𝓤 H (W .laws) C) (known-small : Triple 𝓤 (C #small) (Small 𝓤 H A at-mem run)) (known-slots : Triple 𝓤 (C #slots) (Slots 𝓤 H A at-mem run)) (known-worlds : Triple 𝓤 (C #worlds) (Worlds 𝓤 H A at-mem run)) where
-    calls-small-at : (l : List Float) → Room f32 (length l) → length l ≡ 4460 → IsState h → ent 𝓤 (⋆ 𝓤 H A (raw (Mirror 𝓤 H A κ′ q′ b′ o′ γ′ (length l) (l)) ∷ [])) (H .⇛ (C #small (vint w32 (dirtyWord h) ∷ keyVal k ∷ part 0 h ∷ matrixVal (getD (h .«world_palette») 0 noMatrix) ∷ part 1 h ∷ part 5 h ∷ sliceVal (b′, o′) (length l) ∷ []) (After-small (length l) (l))))
+  module _ (C : Calls 𝓤 H) (fm : FmC 𝓤 H (W .laws) C) (known-small : Triple 𝓤 (C small-def.name) (Small 𝓤 H A at-mem run)) (known-slots : Triple 𝓤 (C slots-def.name) (Slots 𝓤 H A at-mem run)) (known-worlds : Triple 𝓤 (C worlds-def.name) (Worlds 𝓤 H A at-mem run)) where
+    calls-small-at : (l : List Float) → Room f32 (length l) → length l ≡ 4460 → IsState h → ent 𝓤 (⋆ 𝓤 H A (raw (Mirror 𝓤 H A κ′ q′ b′ o′ γ′ (length l) (l)) ∷ [])) (H .⇛ (C small-def.name (vint w32 (dirtyWord h) ∷ keyVal k ∷ part 0 h ∷ matrixVal (getD (h .«world_palette») 0 noMatrix) ∷ part 1 h ∷ part 5 h ∷ sliceVal (b′, o′) (length l) ∷ []) (After-small (length l) (l))))
     unfolding Mirror
     calls-small-at l room long was =
         qed W ((‵ (MutSlice (named 1) κ′ f32 .own (at-ref b′ o′ γ′ (l)) (sliceVal (b′, o′) (length l) ∷ [])) ⊛ ‵ (flft κ′ q′)) ∷ []) ∵ updating ! $
@@ -400,14 +398,14 @@ module _ {M : Type 1} (𝓤 : URA M) (H : Heap 𝓤) (A : Atoms 𝓤) (W : Given
         use2 W (later (some (λ (δ′ : GName). ‵ (MutSlice (named 1) (ν′ ∷ []) f32 .own (at-ref b′ o′ δ′ l) (sliceVal (b′, o′) (length l) ∷ [])) ⊛ ‵ (Slices.LentAgain f32 κ′ (ν′ ∷ []) q′ γ′ b′ o′ δ′ l)))) (Slices.lends-again f32 κ′ (ν′ ∷ []) q′ γ′ b′ o′ 𝓤 H A W (named 1) (named 1) l) $ await ! tt $ pick ! (λ δ′. split ! $
         move ! (2 ∷ 0 ∷ []) $
         group ! 2 $ use1 W (raw (Small 𝓤 H A at-mem run .pre (to-small l ν′ δ′))) (goes-small l ν′ δ′ long was) $
-        use1 W (raw (C #small (vint w32 (dirtyWord h) ∷ keyVal k ∷ part 0 h ∷ matrixVal (getD (h .«world_palette») 0 noMatrix) ∷ part 1 h ∷ part 5 h ∷ sliceVal (b′, o′) (length l) ∷ []) (Small 𝓤 H A at-mem run .post (to-small l ν′ δ′)))) (known-small (to-small l ν′ δ′)) $
+        use1 W (raw (C small-def.name (vint w32 (dirtyWord h) ∷ keyVal k ∷ part 0 h ∷ matrixVal (getD (h .«world_palette») 0 noMatrix) ∷ part 1 h ∷ part 5 h ∷ sliceVal (b′, o′) (length l) ∷ []) (Small 𝓤 H A at-mem run .post (to-small l ν′ δ′)))) (known-small (to-small l ν′ δ′)) $
         keep ! (0 ∷ 1 ∷ []) $
-        at-once ! $ by ! (fm #small (vint w32 (dirtyWord h) ∷ keyVal k ∷ part 0 h ∷ matrixVal (getD (h .«world_palette») 0 noMatrix) ∷ part 1 h ∷ part 5 h ∷ sliceVal (b′, o′) (length l) ∷ []) (Small 𝓤 H A at-mem run .post (to-small l ν′ δ′)) (After-small (length l) l) (⋆ 𝓤 H A (‵ (Slices.LentAgain f32 κ′ (ν′ ∷ []) q′ γ′ b′ o′ δ′ l) ∷ [])) (back-small l room ν′ δ′))))
+        kit.now ! $ by ! (fm small-def.name (vint w32 (dirtyWord h) ∷ keyVal k ∷ part 0 h ∷ matrixVal (getD (h .«world_palette») 0 noMatrix) ∷ part 1 h ∷ part 5 h ∷ sliceVal (b′, o′) (length l) ∷ []) (Small 𝓤 H A at-mem run .post (to-small l ν′ δ′)) (After-small (length l) l) (⋆ 𝓤 H A (‵ (Slices.LentAgain f32 κ′ (ν′ ∷ []) q′ γ′ b′ o′ δ′ l) ∷ [])) (back-small l room ν′ δ′))))
 
-    calls-small : (n : ℕ) (l : List Float) → length l ≡ n → Room f32 n → length l ≡ 4460 → IsState h → ent 𝓤 (⋆ 𝓤 H A (raw (Mirror 𝓤 H A κ′ q′ b′ o′ γ′ (n) (l)) ∷ [])) (H .⇛ (C #small (vint w32 (dirtyWord h) ∷ keyVal k ∷ part 0 h ∷ matrixVal (getD (h .«world_palette») 0 noMatrix) ∷ part 1 h ∷ part 5 h ∷ sliceVal (b′, o′) (n) ∷ []) (After-small (n) (l))))
-    calls-small n l same room long was = subst (λ (m : ℕ). ent 𝓤 (⋆ 𝓤 H A (raw (Mirror 𝓤 H A κ′ q′ b′ o′ γ′ (m) (l)) ∷ [])) (H .⇛ (C #small (vint w32 (dirtyWord h) ∷ keyVal k ∷ part 0 h ∷ matrixVal (getD (h .«world_palette») 0 noMatrix) ∷ part 1 h ∷ part 5 h ∷ sliceVal (b′, o′) (m) ∷ []) (After-small (m) (l))))) same (calls-small-at l (subst (Room f32) (sym same) room) long was)
+    calls-small : (n : ℕ) (l : List Float) → length l ≡ n → Room f32 n → length l ≡ 4460 → IsState h → ent 𝓤 (⋆ 𝓤 H A (raw (Mirror 𝓤 H A κ′ q′ b′ o′ γ′ (n) (l)) ∷ [])) (H .⇛ (C small-def.name (vint w32 (dirtyWord h) ∷ keyVal k ∷ part 0 h ∷ matrixVal (getD (h .«world_palette») 0 noMatrix) ∷ part 1 h ∷ part 5 h ∷ sliceVal (b′, o′) (n) ∷ []) (After-small (n) (l))))
+    calls-small n l same room long was = subst (λ (m : ℕ). ent 𝓤 (⋆ 𝓤 H A (raw (Mirror 𝓤 H A κ′ q′ b′ o′ γ′ (m) (l)) ∷ [])) (H .⇛ (C small-def.name (vint w32 (dirtyWord h) ∷ keyVal k ∷ part 0 h ∷ matrixVal (getD (h .«world_palette») 0 noMatrix) ∷ part 1 h ∷ part 5 h ∷ sliceVal (b′, o′) (m) ∷ []) (After-small (m) (l))))) same (calls-small-at l (subst (Room f32) (sym same) room) long was)
 
-    calls-slots-at : (l : List Float) → Room f32 (length l) → length l ≡ 4460 → IsState h → ent 𝓤 (⋆ 𝓤 H A (raw (Shut 𝓤 H A κ q b o γ (withFfVsDirty h 0)) ∷ raw (Mirror 𝓤 H A κ′ q′ b′ o′ γ′ (length l) (l)) ∷ [])) (H .⇛ (C #slots (vptr b o ∷ vint w32 (dirtyWord h) ∷ keyVal k ∷ sliceVal (b′, o′) (length l) ∷ []) (After-slots (length l) (l))))
+    calls-slots-at : (l : List Float) → Room f32 (length l) → length l ≡ 4460 → IsState h → ent 𝓤 (⋆ 𝓤 H A (raw (Shut 𝓤 H A κ q b o γ (withFfVsDirty h 0)) ∷ raw (Mirror 𝓤 H A κ′ q′ b′ o′ γ′ (length l) (l)) ∷ [])) (H .⇛ (C slots-def.name (vptr b o ∷ vint w32 (dirtyWord h) ∷ keyVal k ∷ sliceVal (b′, o′) (length l) ∷ []) (After-slots (length l) (l))))
     unfolding Shut Mirror
     calls-slots-at l room long was =
         qed W ((‵ (fobs γ (St.the-row .coded .code (withFfVsDirty h 0))) ⊛ ‵ (fbor κ (Body (mem St.the-row) b o γ)) ⊛ ‵ (flft κ q)) ∷ (‵ (MutSlice (named 1) κ′ f32 .own (at-ref b′ o′ γ′ (l)) (sliceVal (b′, o′) (length l) ∷ [])) ⊛ ‵ (flft κ′ q′)) ∷ []) ∵ updating ! $
@@ -426,14 +424,14 @@ module _ {M : Type 1} (𝓤 : URA M) (H : Heap 𝓤) (A : Atoms 𝓤) (W : Given
         use2 W (later (some (λ (δ′ : GName). ‵ (MutSlice (named 1) (ν′ ∷ []) f32 .own (at-ref b′ o′ δ′ l) (sliceVal (b′, o′) (length l) ∷ [])) ⊛ ‵ (Slices.LentAgain f32 κ′ (ν′ ∷ []) q′ γ′ b′ o′ δ′ l)))) (Slices.lends-again f32 κ′ (ν′ ∷ []) q′ γ′ b′ o′ 𝓤 H A W (named 1) (named 1) l) $ await ! tt $ pick ! (λ δ′. split ! $
         move ! (5 ∷ 2 ∷ 3 ∷ 0 ∷ []) $
         group ! 4 $ use1 W (raw (Slots 𝓤 H A at-mem run .pre (to-slots l ν δ ν′ δ′))) (goes-slots l ν δ ν′ δ′ long was) $
-        use1 W (raw (C #slots (vptr b o ∷ vint w32 (dirtyWord h) ∷ keyVal k ∷ sliceVal (b′, o′) (length l) ∷ []) (Slots 𝓤 H A at-mem run .post (to-slots l ν δ ν′ δ′)))) (known-slots (to-slots l ν δ ν′ δ′)) $
+        use1 W (raw (C slots-def.name (vptr b o ∷ vint w32 (dirtyWord h) ∷ keyVal k ∷ sliceVal (b′, o′) (length l) ∷ []) (Slots 𝓤 H A at-mem run .post (to-slots l ν δ ν′ δ′)))) (known-slots (to-slots l ν δ ν′ δ′)) $
         keep ! (0 ∷ 2 ∷ 1 ∷ []) $
-        at-once ! $ by ! (fm #slots (vptr b o ∷ vint w32 (dirtyWord h) ∷ keyVal k ∷ sliceVal (b′, o′) (length l) ∷ []) (Slots 𝓤 H A at-mem run .post (to-slots l ν δ ν′ δ′)) (After-slots (length l) l) (⋆ 𝓤 H A (‵ (LentAgain St.the-row κ (ν ∷ []) q γ b o δ (withFfVsDirty h 0)) ∷ ‵ (Slices.LentAgain f32 κ′ (ν′ ∷ []) q′ γ′ b′ o′ δ′ l) ∷ [])) (back-slots l room ν δ ν′ δ′))))))
+        kit.now ! $ by ! (fm slots-def.name (vptr b o ∷ vint w32 (dirtyWord h) ∷ keyVal k ∷ sliceVal (b′, o′) (length l) ∷ []) (Slots 𝓤 H A at-mem run .post (to-slots l ν δ ν′ δ′)) (After-slots (length l) l) (⋆ 𝓤 H A (‵ (LentAgain St.the-row κ (ν ∷ []) q γ b o δ (withFfVsDirty h 0)) ∷ ‵ (Slices.LentAgain f32 κ′ (ν′ ∷ []) q′ γ′ b′ o′ δ′ l) ∷ [])) (back-slots l room ν δ ν′ δ′))))))
 
-    calls-slots : (n : ℕ) (l : List Float) → length l ≡ n → Room f32 n → length l ≡ 4460 → IsState h → ent 𝓤 (⋆ 𝓤 H A (raw (Shut 𝓤 H A κ q b o γ (withFfVsDirty h 0)) ∷ raw (Mirror 𝓤 H A κ′ q′ b′ o′ γ′ (n) (l)) ∷ [])) (H .⇛ (C #slots (vptr b o ∷ vint w32 (dirtyWord h) ∷ keyVal k ∷ sliceVal (b′, o′) (n) ∷ []) (After-slots (n) (l))))
-    calls-slots n l same room long was = subst (λ (m : ℕ). ent 𝓤 (⋆ 𝓤 H A (raw (Shut 𝓤 H A κ q b o γ (withFfVsDirty h 0)) ∷ raw (Mirror 𝓤 H A κ′ q′ b′ o′ γ′ (m) (l)) ∷ [])) (H .⇛ (C #slots (vptr b o ∷ vint w32 (dirtyWord h) ∷ keyVal k ∷ sliceVal (b′, o′) (m) ∷ []) (After-slots (m) (l))))) same (calls-slots-at l (subst (Room f32) (sym same) room) long was)
+    calls-slots : (n : ℕ) (l : List Float) → length l ≡ n → Room f32 n → length l ≡ 4460 → IsState h → ent 𝓤 (⋆ 𝓤 H A (raw (Shut 𝓤 H A κ q b o γ (withFfVsDirty h 0)) ∷ raw (Mirror 𝓤 H A κ′ q′ b′ o′ γ′ (n) (l)) ∷ [])) (H .⇛ (C slots-def.name (vptr b o ∷ vint w32 (dirtyWord h) ∷ keyVal k ∷ sliceVal (b′, o′) (n) ∷ []) (After-slots (n) (l))))
+    calls-slots n l same room long was = subst (λ (m : ℕ). ent 𝓤 (⋆ 𝓤 H A (raw (Shut 𝓤 H A κ q b o γ (withFfVsDirty h 0)) ∷ raw (Mirror 𝓤 H A κ′ q′ b′ o′ γ′ (m) (l)) ∷ [])) (H .⇛ (C slots-def.name (vptr b o ∷ vint w32 (dirtyWord h) ∷ keyVal k ∷ sliceVal (b′, o′) (m) ∷ []) (After-slots (m) (l))))) same (calls-slots-at l (subst (Room f32) (sym same) room) long was)
 
-    calls-worlds-at : (l : List Float) → Room f32 (length l) → length l ≡ 4460 → IsState h → ent 𝓤 (⋆ 𝓤 H A (raw (Shut 𝓤 H A κ q b o γ (withFfVsDirty h 0)) ∷ raw (Mirror 𝓤 H A κ′ q′ b′ o′ γ′ (length l) (l)) ∷ [])) (H .⇛ (C #worlds (vptr b o ∷ vint w32 (dirtyWord h) ∷ keyVal k ∷ sliceVal (b′, o′) (length l) ∷ []) (After-worlds (length l) (l))))
+    calls-worlds-at : (l : List Float) → Room f32 (length l) → length l ≡ 4460 → IsState h → ent 𝓤 (⋆ 𝓤 H A (raw (Shut 𝓤 H A κ q b o γ (withFfVsDirty h 0)) ∷ raw (Mirror 𝓤 H A κ′ q′ b′ o′ γ′ (length l) (l)) ∷ [])) (H .⇛ (C worlds-def.name (vptr b o ∷ vint w32 (dirtyWord h) ∷ keyVal k ∷ sliceVal (b′, o′) (length l) ∷ []) (After-worlds (length l) (l))))
     unfolding Shut Mirror
     calls-worlds-at l room long was =
         qed W ((‵ (fobs γ (St.the-row .coded .code (withFfVsDirty h 0))) ⊛ ‵ (fbor κ (Body (mem St.the-row) b o γ)) ⊛ ‵ (flft κ q)) ∷ (‵ (MutSlice (named 1) κ′ f32 .own (at-ref b′ o′ γ′ (l)) (sliceVal (b′, o′) (length l) ∷ [])) ⊛ ‵ (flft κ′ q′)) ∷ []) ∵ updating ! $
@@ -452,12 +450,12 @@ module _ {M : Type 1} (𝓤 : URA M) (H : Heap 𝓤) (A : Atoms 𝓤) (W : Given
         use2 W (later (some (λ (δ′ : GName). ‵ (MutSlice (named 1) (ν′ ∷ []) f32 .own (at-ref b′ o′ δ′ l) (sliceVal (b′, o′) (length l) ∷ [])) ⊛ ‵ (Slices.LentAgain f32 κ′ (ν′ ∷ []) q′ γ′ b′ o′ δ′ l)))) (Slices.lends-again f32 κ′ (ν′ ∷ []) q′ γ′ b′ o′ 𝓤 H A W (named 1) (named 1) l) $ await ! tt $ pick ! (λ δ′. split ! $
         move ! (5 ∷ 2 ∷ 3 ∷ 0 ∷ []) $
         group ! 4 $ use1 W (raw (Worlds 𝓤 H A at-mem run .pre (to-worlds l ν δ ν′ δ′))) (goes-worlds l ν δ ν′ δ′ long was) $
-        use1 W (raw (C #worlds (vptr b o ∷ vint w32 (dirtyWord h) ∷ keyVal k ∷ sliceVal (b′, o′) (length l) ∷ []) (Worlds 𝓤 H A at-mem run .post (to-worlds l ν δ ν′ δ′)))) (known-worlds (to-worlds l ν δ ν′ δ′)) $
+        use1 W (raw (C worlds-def.name (vptr b o ∷ vint w32 (dirtyWord h) ∷ keyVal k ∷ sliceVal (b′, o′) (length l) ∷ []) (Worlds 𝓤 H A at-mem run .post (to-worlds l ν δ ν′ δ′)))) (known-worlds (to-worlds l ν δ ν′ δ′)) $
         keep ! (0 ∷ 2 ∷ 1 ∷ []) $
-        at-once ! $ by ! (fm #worlds (vptr b o ∷ vint w32 (dirtyWord h) ∷ keyVal k ∷ sliceVal (b′, o′) (length l) ∷ []) (Worlds 𝓤 H A at-mem run .post (to-worlds l ν δ ν′ δ′)) (After-worlds (length l) l) (⋆ 𝓤 H A (‵ (LentAgain St.the-row κ (ν ∷ []) q γ b o δ (withFfVsDirty h 0)) ∷ ‵ (Slices.LentAgain f32 κ′ (ν′ ∷ []) q′ γ′ b′ o′ δ′ l) ∷ [])) (back-worlds l room ν δ ν′ δ′))))))
+        kit.now ! $ by ! (fm worlds-def.name (vptr b o ∷ vint w32 (dirtyWord h) ∷ keyVal k ∷ sliceVal (b′, o′) (length l) ∷ []) (Worlds 𝓤 H A at-mem run .post (to-worlds l ν δ ν′ δ′)) (After-worlds (length l) l) (⋆ 𝓤 H A (‵ (LentAgain St.the-row κ (ν ∷ []) q γ b o δ (withFfVsDirty h 0)) ∷ ‵ (Slices.LentAgain f32 κ′ (ν′ ∷ []) q′ γ′ b′ o′ δ′ l) ∷ [])) (back-worlds l room ν δ ν′ δ′))))))
 
-    calls-worlds : (n : ℕ) (l : List Float) → length l ≡ n → Room f32 n → length l ≡ 4460 → IsState h → ent 𝓤 (⋆ 𝓤 H A (raw (Shut 𝓤 H A κ q b o γ (withFfVsDirty h 0)) ∷ raw (Mirror 𝓤 H A κ′ q′ b′ o′ γ′ (n) (l)) ∷ [])) (H .⇛ (C #worlds (vptr b o ∷ vint w32 (dirtyWord h) ∷ keyVal k ∷ sliceVal (b′, o′) (n) ∷ []) (After-worlds (n) (l))))
-    calls-worlds n l same room long was = subst (λ (m : ℕ). ent 𝓤 (⋆ 𝓤 H A (raw (Shut 𝓤 H A κ q b o γ (withFfVsDirty h 0)) ∷ raw (Mirror 𝓤 H A κ′ q′ b′ o′ γ′ (m) (l)) ∷ [])) (H .⇛ (C #worlds (vptr b o ∷ vint w32 (dirtyWord h) ∷ keyVal k ∷ sliceVal (b′, o′) (m) ∷ []) (After-worlds (m) (l))))) same (calls-worlds-at l (subst (Room f32) (sym same) room) long was)
+    calls-worlds : (n : ℕ) (l : List Float) → length l ≡ n → Room f32 n → length l ≡ 4460 → IsState h → ent 𝓤 (⋆ 𝓤 H A (raw (Shut 𝓤 H A κ q b o γ (withFfVsDirty h 0)) ∷ raw (Mirror 𝓤 H A κ′ q′ b′ o′ γ′ (n) (l)) ∷ [])) (H .⇛ (C worlds-def.name (vptr b o ∷ vint w32 (dirtyWord h) ∷ keyVal k ∷ sliceVal (b′, o′) (n) ∷ []) (After-worlds (n) (l))))
+    calls-worlds n l same room long was = subst (λ (m : ℕ). ent 𝓤 (⋆ 𝓤 H A (raw (Shut 𝓤 H A κ q b o γ (withFfVsDirty h 0)) ∷ raw (Mirror 𝓤 H A κ′ q′ b′ o′ γ′ (m) (l)) ∷ [])) (H .⇛ (C worlds-def.name (vptr b o ∷ vint w32 (dirtyWord h) ∷ keyVal k ∷ sliceVal (b′, o′) (m) ∷ []) (After-worlds (m) (l))))) same (calls-worlds-at l (subst (Room f32) (sym same) room) long was)
 
   opening : ent 𝓤 (Shut 𝓤 H A κ q b o γ (h)) (H .⇛ (sep 𝓤 (sep 𝓤 (H .at fullShare St′.mir b o (openVal h)) (Wide 𝓤 H A κ q b o γ h)) (fact 𝓤 (IsState h))))
   opening = unlock 𝓤 H A κ q b o γ W h
@@ -465,7 +463,7 @@ module _ {M : Type 1} (𝓤 : URA M) (H : Heap 𝓤) (A : Atoms 𝓤) (W : Given
   shutting : IsState h → ent 𝓤 (sep 𝓤 (H .at fullShare St′.mir b o (wideVal h (vint w8 0))) (Wide 𝓤 H A κ q b o γ h)) (H .⇛ (Shut 𝓤 H A κ q b o γ (withFfVsDirty h 0)))
   shutting was = lock 𝓤 H A κ q b o γ W h (withFfVsDirty h 0) (wideVal h (vint w8 0)) (cleanVal h) (with-dirty h was 0 (lit< tt))
 
-  module _ (Post : Val → SProp 𝓤) (leaves : (r : ℕ) (z : FfState) (zs : List Float) → r < 2 ^ 32 → r ≡ dirtyWord h → z ≡ withFfVsDirty h 0 → zs ≡ written sections (dirtyWord h) h k ys → length zs ≡ length ys → ent 𝓤 (⋆ 𝓤 H A (raw (Shut 𝓤 H A κ q b o γ (z)) ∷ raw (Mirror 𝓤 H A κ′ q′ b′ o′ γ′ (length ys) (zs)) ∷ [])) (Post (vint w32 r))) (C : Calls 𝓤 H) (Λ : Loops 𝓤 H) (fm : FmC 𝓤 H (W .laws) C) (calls-small : (n : ℕ) (l : List Float) → length l ≡ n → Room f32 n → length l ≡ 4460 → IsState h → ent 𝓤 (⋆ 𝓤 H A (raw (Mirror 𝓤 H A κ′ q′ b′ o′ γ′ (n) (l)) ∷ [])) (H .⇛ (C #small (vint w32 (dirtyWord h) ∷ keyVal k ∷ part 0 h ∷ matrixVal (getD (h .«world_palette») 0 noMatrix) ∷ part 1 h ∷ part 5 h ∷ sliceVal (b′, o′) (n) ∷ []) (After-small (n) (l))))) (calls-slots : (n : ℕ) (l : List Float) → length l ≡ n → Room f32 n → length l ≡ 4460 → IsState h → ent 𝓤 (⋆ 𝓤 H A (raw (Shut 𝓤 H A κ q b o γ (withFfVsDirty h 0)) ∷ raw (Mirror 𝓤 H A κ′ q′ b′ o′ γ′ (n) (l)) ∷ [])) (H .⇛ (C #slots (vptr b o ∷ vint w32 (dirtyWord h) ∷ keyVal k ∷ sliceVal (b′, o′) (n) ∷ []) (After-slots (n) (l))))) (calls-worlds : (n : ℕ) (l : List Float) → length l ≡ n → Room f32 n → length l ≡ 4460 → IsState h → ent 𝓤 (⋆ 𝓤 H A (raw (Shut 𝓤 H A κ q b o γ (withFfVsDirty h 0)) ∷ raw (Mirror 𝓤 H A κ′ q′ b′ o′ γ′ (n) (l)) ∷ [])) (H .⇛ (C #worlds (vptr b o ∷ vint w32 (dirtyWord h) ∷ keyVal k ∷ sliceVal (b′, o′) (n) ∷ []) (After-worlds (n) (l))))) (ν : Sym) (τs : Tys) (nm tk tm tmat : Ty) (key-typed′ : (k : FfVsKey) → IsKey k → T (hasTy tk (keyVal k)) × WT (keyVal k)) {d₀ : ℕ} (f₀ : fieldAt 0 τs 0 ≡ known (tm, d₀)) (view-typed′ : IsState h → T (hasTy (tm) (part 0 h)) × WT (part 0 h)) {d₁ : ℕ} (f₁ : fieldAt 0 τs 1 ≡ known (tm, d₁)) (projection-typed′ : IsState h → T (hasTy (tm) (part 1 h)) × WT (part 1 h)) {d₂ : ℕ} (f₂ : fieldAt 0 τs 2 ≡ known (tyArray tm 256, d₂)) (palette-typed′ : IsState h → T (hasTy (tyArray tm 256) (part 2 h)) × WT (part 2 h)) {d₅ : ℕ} (f₅ : fieldAt 0 τs 5 ≡ known (tmat, d₅)) (material-typed′ : IsState h → T (hasTy (tmat) (part 5 h)) × WT (part 5 h)) {d₁₄ : ℕ} (f₁₄ : fieldAt 0 τs 14 ≡ known (tyInt w8, d₁₄)) (dirty-typed′ : IsState h → T (hasTy (tyInt w8) (part 14 h)) × WT (part 14 h)) (open-it : ent 𝓤 (Shut 𝓤 H A κ q b o γ (h)) (H .⇛ (sep 𝓤 (sep 𝓤 (H .at fullShare (tyStruct ν τs) b o (openVal h)) (Wide 𝓤 H A κ q b o γ h)) (fact 𝓤 (IsState h))))) (shut-it : IsState h → ent 𝓤 (sep 𝓤 (H .at fullShare (tyStruct ν τs) b o (wideVal h (vint w8 0))) (Wide 𝓤 H A κ q b o γ h)) (H .⇛ (Shut 𝓤 H A κ q b o γ (withFfVsDirty h 0)))) (world-typed′ : IsState h → T (hasTy tm (getD (matrixVals (h .«world_palette»)) 0 vunit)) × WT (getD (matrixVals (h .«world_palette»)) 0 vunit)) where
+  module _ (Post : Val → SProp 𝓤) (leaves : (r : ℕ) (z : FfState) (zs : List Float) → r < 2 ^ 32 → r ≡ dirtyWord h → z ≡ withFfVsDirty h 0 → zs ≡ written sections (dirtyWord h) h k ys → length zs ≡ length ys → ent 𝓤 (⋆ 𝓤 H A (raw (Shut 𝓤 H A κ q b o γ (z)) ∷ raw (Mirror 𝓤 H A κ′ q′ b′ o′ γ′ (length ys) (zs)) ∷ [])) (Post (vint w32 r))) (C : Calls 𝓤 H) (Λ : Loops 𝓤 H) (fm : FmC 𝓤 H (W .laws) C) (calls-small : (n : ℕ) (l : List Float) → length l ≡ n → Room f32 n → length l ≡ 4460 → IsState h → ent 𝓤 (⋆ 𝓤 H A (raw (Mirror 𝓤 H A κ′ q′ b′ o′ γ′ (n) (l)) ∷ [])) (H .⇛ (C small-def.name (vint w32 (dirtyWord h) ∷ keyVal k ∷ part 0 h ∷ matrixVal (getD (h .«world_palette») 0 noMatrix) ∷ part 1 h ∷ part 5 h ∷ sliceVal (b′, o′) (n) ∷ []) (After-small (n) (l))))) (calls-slots : (n : ℕ) (l : List Float) → length l ≡ n → Room f32 n → length l ≡ 4460 → IsState h → ent 𝓤 (⋆ 𝓤 H A (raw (Shut 𝓤 H A κ q b o γ (withFfVsDirty h 0)) ∷ raw (Mirror 𝓤 H A κ′ q′ b′ o′ γ′ (n) (l)) ∷ [])) (H .⇛ (C slots-def.name (vptr b o ∷ vint w32 (dirtyWord h) ∷ keyVal k ∷ sliceVal (b′, o′) (n) ∷ []) (After-slots (n) (l))))) (calls-worlds : (n : ℕ) (l : List Float) → length l ≡ n → Room f32 n → length l ≡ 4460 → IsState h → ent 𝓤 (⋆ 𝓤 H A (raw (Shut 𝓤 H A κ q b o γ (withFfVsDirty h 0)) ∷ raw (Mirror 𝓤 H A κ′ q′ b′ o′ γ′ (n) (l)) ∷ [])) (H .⇛ (C worlds-def.name (vptr b o ∷ vint w32 (dirtyWord h) ∷ keyVal k ∷ sliceVal (b′, o′) (n) ∷ []) (After-worlds (n) (l))))) (ν : Sym) (τs : Tys) (nm tk tm tmat : Ty) (key-typed′ : (k : FfVsKey) → IsKey k → T (hasTy tk (keyVal k)) × WT (keyVal k)) {d₀ : ℕ} (f₀ : fieldAt 0 τs 0 ≡ option.some (tm, d₀)) (view-typed′ : IsState h → T (hasTy (tm) (part 0 h)) × WT (part 0 h)) {d₁ : ℕ} (f₁ : fieldAt 0 τs 1 ≡ option.some (tm, d₁)) (projection-typed′ : IsState h → T (hasTy (tm) (part 1 h)) × WT (part 1 h)) {d₂ : ℕ} (f₂ : fieldAt 0 τs 2 ≡ option.some (tyArray tm 256, d₂)) (palette-typed′ : IsState h → T (hasTy (tyArray tm 256) (part 2 h)) × WT (part 2 h)) {d₅ : ℕ} (f₅ : fieldAt 0 τs 5 ≡ option.some (tmat, d₅)) (material-typed′ : IsState h → T (hasTy (tmat) (part 5 h)) × WT (part 5 h)) {d₁₄ : ℕ} (f₁₄ : fieldAt 0 τs 14 ≡ option.some (tyInt w8, d₁₄)) (dirty-typed′ : IsState h → T (hasTy (tyInt w8) (part 14 h)) × WT (part 14 h)) (open-it : ent 𝓤 (Shut 𝓤 H A κ q b o γ (h)) (H .⇛ (sep 𝓤 (sep 𝓤 (H .at fullShare (tyStruct ν τs) b o (openVal h)) (Wide 𝓤 H A κ q b o γ h)) (fact 𝓤 (IsState h))))) (shut-it : IsState h → ent 𝓤 (sep 𝓤 (H .at fullShare (tyStruct ν τs) b o (wideVal h (vint w8 0))) (Wide 𝓤 H A κ q b o γ h)) (H .⇛ (Shut 𝓤 H A κ q b o γ (withFfVsDirty h 0)))) (world-typed′ : IsState h → T (hasTy tm (getD (matrixVals (h .«world_palette»)) 0 vunit)) × WT (getD (matrixVals (h .«world_palette»)) 0 vunit)) where
     walk : length ys ≡ 4460 → ent 𝓤 (⋆ 𝓤 H A (raw (Shut 𝓤 H A κ q b o γ (h)) ∷ raw (Mirror 𝓤 H A κ′ q′ b′ o′ γ′ (length ys) (ys)) ∷ [])) (WpFn 𝓤 H C Λ (codeOf (tyStruct ν τs) nm tk tm tmat) (vptr b o ∷ keyVal k ∷ mirrorVal ∷ []) Post)
     walk long =
         qed W (raw (Shut 𝓤 H A κ q b o γ (h)) ∷ raw (Mirror 𝓤 H A κ′ q′ b′ o′ γ′ (length ys) (ys)) ∷ []) ∵
@@ -490,8 +488,8 @@ module _ {M : Type 1} (𝓤 : URA M) (H : Heap 𝓤) (A : Atoms 𝓤) (W : Given
         assigns ! (agg ! (and-then ! (load ! (from ! (stop !)) (look ! 16 refl)) (and-then ! (load ! (from ! (fld ! refl (stop !))) (look-in ! 36 (sub ! 1 refl (whole !)))) (no-more !)))) (from ! (stop !)) (init ! 14 refl (tt, (tt, (record { fits = room .0 }, tt)))) $
         use2 W (later (raw (Shut 𝓤 H A κ q b o γ (withFfVsDirty h 0)))) (shut-it was) $ await ! tt $
         move ! (43 ∷ []) $
-        use1 W (later (raw (C #small (vint w32 (dirtyWord h) ∷ keyVal k ∷ part 0 h ∷ matrixVal (getD (h .«world_palette») 0 noMatrix) ∷ part 1 h ∷ part 5 h ∷ sliceVal (b′, o′) (length ys) ∷ []) (After-small (length ys) (ys))))) (calls-small (length ys) (ys) (refl) room long was) $ await ! tt $
-        calls-from ! fm (raw (C #small (vint w32 (dirtyWord h) ∷ keyVal k ∷ part 0 h ∷ matrixVal (getD (h .«world_palette») 0 noMatrix) ∷ part 1 h ∷ part 5 h ∷ sliceVal (b′, o′) (length ys) ∷ []) (After-small (length ys) (ys)))) (vint w32 (dirtyWord h) ∷ keyVal k ∷ part 0 h ∷ matrixVal (getD (h .«world_palette») 0 noMatrix) ∷ part 1 h ∷ part 5 h ∷ sliceVal (b′, o′) (length ys) ∷ []) (After-small (length ys) (ys)) (id⊢ 𝓤 _) (and-then ! (load ! (from ! (stop !)) (look ! 34 refl)) (and-then ! (load ! (from ! (stop !)) (look ! 38 refl)) (and-then ! (load ! (from ! (stop !)) (look ! 28 refl)) (and-then ! (load ! (from ! (stop !)) (look ! 22 refl)) (and-then ! (load ! (from ! (stop !)) (look ! 20 refl)) (and-then ! (load ! (from ! (stop !)) (look ! 18 refl)) (and-then ! (load ! (from ! (stop !)) (look ! 14 refl)) (no-more !)))))))) (λ vp.
+        use1 W (later (raw (C small-def.name (vint w32 (dirtyWord h) ∷ keyVal k ∷ part 0 h ∷ matrixVal (getD (h .«world_palette») 0 noMatrix) ∷ part 1 h ∷ part 5 h ∷ sliceVal (b′, o′) (length ys) ∷ []) (After-small (length ys) (ys))))) (calls-small (length ys) (ys) (refl) room long was) $ await ! tt $
+        calls-from ! fm (raw (C small-def.name (vint w32 (dirtyWord h) ∷ keyVal k ∷ part 0 h ∷ matrixVal (getD (h .«world_palette») 0 noMatrix) ∷ part 1 h ∷ part 5 h ∷ sliceVal (b′, o′) (length ys) ∷ []) (After-small (length ys) (ys)))) (vint w32 (dirtyWord h) ∷ keyVal k ∷ part 0 h ∷ matrixVal (getD (h .«world_palette») 0 noMatrix) ∷ part 1 h ∷ part 5 h ∷ sliceVal (b′, o′) (length ys) ∷ []) (After-small (length ys) (ys)) (id⊢ 𝓤 _) (and-then ! (load ! (from ! (stop !)) (look ! 34 refl)) (and-then ! (load ! (from ! (stop !)) (look ! 38 refl)) (and-then ! (load ! (from ! (stop !)) (look ! 28 refl)) (and-then ! (load ! (from ! (stop !)) (look ! 22 refl)) (and-then ! (load ! (from ! (stop !)) (look ! 20 refl)) (and-then ! (load ! (from ! (stop !)) (look ! 18 refl)) (and-then ! (load ! (from ! (stop !)) (look ! 14 refl)) (no-more !)))))))) (λ vp.
         use1 W (later (some (λ (p : List Float). (raw (Mirror 𝓤 H A κ′ q′ b′ o′ γ′ (length ys) (p))) ⊛ raw (fact 𝓤 ((vp ≡ vunit) × (((p) ≡ writtenSmall (dirtyWord h) k (h .view) (getD (h .«world_palette») 0 noMatrix) (h .projection) (h .material) (ys)) × (length (p) ≡ length ys))))))) (id⊢ 𝓤 _) $ await ! tt $ pick ! (λ p.
         split ! $ move ! (1 ∷ []) $ heard ! ((vp ≡ vunit) × (((p) ≡ writtenSmall (dirtyWord h) k (h .view) (getD (h .«world_palette») 0 noMatrix) (h .projection) (h .material) (ys)) × (length (p) ≡ length ys))) (λ ep.
         land ! (from ! (stop !)) (init ! 30 refl (subst (λ (w : Val). T (hasTy (tyUnit) w) × WT w) (sym (ep .0)) (tt, tt))) $
@@ -501,8 +499,8 @@ module _ {M : Type 1} (𝓤 : URA M) (H : Heap 𝓤) (A : Atoms 𝓤) (W : Given
         assigns ! (agg ! (and-then ! (load ! (from ! (stop !)) (look ! 10 refl)) (and-then ! (load ! (from ! (fld ! refl (stop !))) (look-in ! 36 (sub ! 1 refl (whole !)))) (no-more !)))) (from ! (stop !)) (init ! 8 refl (tt, (tt, (record { fits = room .0 }, tt)))) $
         move ! (1 ∷ 0 ∷ []) $
         group ! 2 $
-        use1 W (later (raw (C #slots (vptr b o ∷ vint w32 (dirtyWord h) ∷ keyVal k ∷ sliceVal (b′, o′) (length ys) ∷ []) (After-slots (length ys) (p))))) (calls-slots (length ys) (p) (ep .1 .1) room (ep .1 .1 ∙ long) was) $ await ! tt $
-        calls-from ! fm (raw (C #slots (vptr b o ∷ vint w32 (dirtyWord h) ∷ keyVal k ∷ sliceVal (b′, o′) (length ys) ∷ []) (After-slots (length ys) (p)))) (vptr b o ∷ vint w32 (dirtyWord h) ∷ keyVal k ∷ sliceVal (b′, o′) (length ys) ∷ []) (After-slots (length ys) (p)) (id⊢ 𝓤 _) (and-then ! (load ! (from ! (stop !)) (look ! 11 refl)) (and-then ! (load ! (from ! (stop !)) (look ! 33 refl)) (and-then ! (load ! (from ! (stop !)) (look ! 37 refl)) (and-then ! (load ! (from ! (stop !)) (look ! 7 refl)) (no-more !))))) (λ vw.
+        use1 W (later (raw (C slots-def.name (vptr b o ∷ vint w32 (dirtyWord h) ∷ keyVal k ∷ sliceVal (b′, o′) (length ys) ∷ []) (After-slots (length ys) (p))))) (calls-slots (length ys) (p) (ep .1 .1) room (ep .1 .1 ∙ long) was) $ await ! tt $
+        calls-from ! fm (raw (C slots-def.name (vptr b o ∷ vint w32 (dirtyWord h) ∷ keyVal k ∷ sliceVal (b′, o′) (length ys) ∷ []) (After-slots (length ys) (p)))) (vptr b o ∷ vint w32 (dirtyWord h) ∷ keyVal k ∷ sliceVal (b′, o′) (length ys) ∷ []) (After-slots (length ys) (p)) (id⊢ 𝓤 _) (and-then ! (load ! (from ! (stop !)) (look ! 11 refl)) (and-then ! (load ! (from ! (stop !)) (look ! 33 refl)) (and-then ! (load ! (from ! (stop !)) (look ! 37 refl)) (and-then ! (load ! (from ! (stop !)) (look ! 7 refl)) (no-more !))))) (λ vw.
         use1 W (later (some (λ (w : List Float). (raw (Shut 𝓤 H A κ q b o γ (withFfVsDirty h 0)) ⊛ raw (Mirror 𝓤 H A κ′ q′ b′ o′ γ′ (length ys) (w))) ⊛ raw (fact 𝓤 ((vw ≡ vunit) × (((w) ≡ writtenSection Lights (dirtyWord h) (withFfVsDirty h 0) k (p)) × (length (w) ≡ length ys))))))) (id⊢ 𝓤 _) $ await ! tt $ pick ! (λ w.
         split ! $ move ! (1 ∷ []) $ heard ! ((vw ≡ vunit) × (((w) ≡ writtenSection Lights (dirtyWord h) (withFfVsDirty h 0) k (p)) × (length (w) ≡ length ys))) (λ ew.
         split ! $
@@ -514,8 +512,8 @@ module _ {M : Type 1} (𝓤 : URA M) (H : Heap 𝓤) (A : Atoms 𝓤) (W : Given
         assigns ! (agg ! (and-then ! (load ! (from ! (stop !)) (look ! 4 refl)) (and-then ! (load ! (from ! (fld ! refl (stop !))) (look-in ! 36 (sub ! 1 refl (whole !)))) (no-more !)))) (from ! (stop !)) (init ! 2 refl (tt, (tt, (record { fits = room .0 }, tt)))) $
         move ! (1 ∷ 0 ∷ []) $
         group ! 2 $
-        use1 W (later (raw (C #worlds (vptr b o ∷ vint w32 (dirtyWord h) ∷ keyVal k ∷ sliceVal (b′, o′) (length ys) ∷ []) (After-worlds (length ys) (w))))) (calls-worlds (length ys) (w) (ew .1 .1) room (ew .1 .1 ∙ long) was) $ await ! tt $
-        calls-from ! fm (raw (C #worlds (vptr b o ∷ vint w32 (dirtyWord h) ∷ keyVal k ∷ sliceVal (b′, o′) (length ys) ∷ []) (After-worlds (length ys) (w)))) (vptr b o ∷ vint w32 (dirtyWord h) ∷ keyVal k ∷ sliceVal (b′, o′) (length ys) ∷ []) (After-worlds (length ys) (w)) (id⊢ 𝓤 _) (and-then ! (load ! (from ! (stop !)) (look ! 5 refl)) (and-then ! (load ! (from ! (stop !)) (look ! 33 refl)) (and-then ! (load ! (from ! (stop !)) (look ! 37 refl)) (and-then ! (load ! (from ! (stop !)) (look ! 1 refl)) (no-more !))))) (λ vx′.
+        use1 W (later (raw (C worlds-def.name (vptr b o ∷ vint w32 (dirtyWord h) ∷ keyVal k ∷ sliceVal (b′, o′) (length ys) ∷ []) (After-worlds (length ys) (w))))) (calls-worlds (length ys) (w) (ew .1 .1) room (ew .1 .1 ∙ long) was) $ await ! tt $
+        calls-from ! fm (raw (C worlds-def.name (vptr b o ∷ vint w32 (dirtyWord h) ∷ keyVal k ∷ sliceVal (b′, o′) (length ys) ∷ []) (After-worlds (length ys) (w)))) (vptr b o ∷ vint w32 (dirtyWord h) ∷ keyVal k ∷ sliceVal (b′, o′) (length ys) ∷ []) (After-worlds (length ys) (w)) (id⊢ 𝓤 _) (and-then ! (load ! (from ! (stop !)) (look ! 5 refl)) (and-then ! (load ! (from ! (stop !)) (look ! 33 refl)) (and-then ! (load ! (from ! (stop !)) (look ! 37 refl)) (and-then ! (load ! (from ! (stop !)) (look ! 1 refl)) (no-more !))))) (λ vx′.
         use1 W (later (some (λ (x′ : List Float). (raw (Shut 𝓤 H A κ q b o γ (withFfVsDirty h 0)) ⊛ raw (Mirror 𝓤 H A κ′ q′ b′ o′ γ′ (length ys) (x′))) ⊛ raw (fact 𝓤 ((vx′ ≡ vunit) × (((x′) ≡ writtenSection Palette (dirtyWord h) (withFfVsDirty h 0) k (w)) × (length (x′) ≡ length ys))))))) (id⊢ 𝓤 _) $ await ! tt $ pick ! (λ x′.
         split ! $ move ! (1 ∷ []) $ heard ! ((vx′ ≡ vunit) × (((x′) ≡ writtenSection Palette (dirtyWord h) (withFfVsDirty h 0) k (w)) × (length (x′) ≡ length ys))) (λ ex′.
         split ! $
@@ -530,11 +528,11 @@ module _ {M : Type 1} (𝓤 : URA M) (H : Heap 𝓤) (A : Atoms 𝓤) (W : Given
         by ! (leaves (dirtyWord h) (withFfVsDirty h 0) x′ (dirty-wide h was) refl refl (all-are h k (dirtyWord h) ys p w x′ (ep .1 .0) (ew .1 .0) (ex′ .1 .0)) (ex′ .1 .1)))))))))))))))))))))))))))))))))
 
 module _ {M : Type 1} (𝓤 : URA M) (H : Heap 𝓤) (A : Atoms 𝓤) (W : Given 𝓤 H A) (mem : Memory → SProp 𝓤) (run : Routine → Fun 𝓤) where
-  walks : (C : Calls 𝓤 H) (Λ : Loops 𝓤 H) → FmC 𝓤 H (W .laws) C → Triple 𝓤 (C #small) (Small 𝓤 H A mem run) → Triple 𝓤 (C #slots) (Slots 𝓤 H A mem run) → Triple 𝓤 (C #worlds) (Worlds 𝓤 H A mem run) → Walks 𝓤 H A f.ended stayed (WpFn 𝓤 H C Λ code.function) (f.clauses 𝓤 H A mem run)
+  walks : (C : Calls 𝓤 H) (Λ : Loops 𝓤 H) → FmC 𝓤 H (W .laws) C → Triple 𝓤 (C small-def.name) (Small 𝓤 H A mem run) → Triple 𝓤 (C slots-def.name) (Slots 𝓤 H A mem run) → Triple 𝓤 (C worlds-def.name) (Worlds 𝓤 H A mem run) → Walks 𝓤 H A f.ended stayed (WpFn 𝓤 H C Λ code.function) (f.clauses 𝓤 H A mem run)
   walks C Λ fm known-small known-slots known-worlds = walked 𝓤 H A f.ended stayed (f.clauses 𝓤 H A mem run) (WpFn 𝓤 H C Λ code.function) (λ κs. (ptr-vals, (LL.vals Ky.the-type Ky′.the-laws, (slice-vals, tt)))) (λ κs. (mut-tells (named 0) (κs .0) St.the-row, (LL.tells Ky.the-type Ky′.the-laws, (mut-slice-tells (named 1) (κs .1 .0) f32, tt))))
       (λ κs qs bounds a g are. needs 𝓤 (length (a .1 .1 .0 .now) ≡ 4460) _ (λ long. via 𝓤 _ (starts 𝓤 H A W mem run (κs .0) (κs .1 .0) (qs .0) (qs .1 .0) (a .0 .ptr .0) (a .0 .ptr .1) (a .0 .name) (a .0 .now) (a .1 .0) (a .1 .1 .0 .ptr .0) (a .1 .1 .0 .ptr .1) (a .1 .1 .0 .name) (a .1 .1 .0 .now) (are .1 .0) (are .1 .1 .0 .0 .1)) (walk 𝓤 H A W mem run (κs .0) (κs .1 .0) (qs .0) (qs .1 .0) (a .0 .ptr .0) (a .0 .ptr .1) (a .0 .name) (a .0 .now) (a .1 .0) (a .1 .1 .0 .ptr .0) (a .1 .1 .0 .ptr .1) (a .1 .1 .0 .name) (a .1 .1 .0 .now) (are .1 .0) (are .1 .1 .0 .0 .1) (Ends 𝓤 H A W mem run (κs .0) (κs .1 .0) (qs .0) (qs .1 .0) (a .0 .ptr .0) (a .0 .ptr .1) (a .0 .name) (a .0 .now) (a .1 .0) (a .1 .1 .0 .ptr .0) (a .1 .1 .0 .ptr .1) (a .1 .1 .0 .name) (a .1 .1 .0 .now) (are .1 .0) (are .1 .1 .0 .0 .1)) (exits 𝓤 H A W mem run (κs .0) (κs .1 .0) (qs .0) (qs .1 .0) (a .0 .ptr .0) (a .0 .ptr .1) (a .0 .name) (a .0 .now) (a .1 .0) (a .1 .1 .0 .ptr .0) (a .1 .1 .0 .ptr .1) (a .1 .1 .0 .name) (a .1 .1 .0 .now) (are .1 .0) (are .1 .1 .0 .0 .1)) C Λ fm (calls-small 𝓤 H A W mem run (κs .0) (κs .1 .0) (qs .0) (qs .1 .0) (a .0 .ptr .0) (a .0 .ptr .1) (a .0 .name) (a .0 .now) (a .1 .0) (a .1 .1 .0 .ptr .0) (a .1 .1 .0 .ptr .1) (a .1 .1 .0 .name) (a .1 .1 .0 .now) (are .1 .0) (are .1 .1 .0 .0 .1) C fm known-small known-slots known-worlds) (calls-slots 𝓤 H A W mem run (κs .0) (κs .1 .0) (qs .0) (qs .1 .0) (a .0 .ptr .0) (a .0 .ptr .1) (a .0 .name) (a .0 .now) (a .1 .0) (a .1 .1 .0 .ptr .0) (a .1 .1 .0 .ptr .1) (a .1 .1 .0 .name) (a .1 .1 .0 .now) (are .1 .0) (are .1 .1 .0 .0 .1) C fm known-small known-slots known-worlds) (calls-worlds 𝓤 H A W mem run (κs .0) (κs .1 .0) (qs .0) (qs .1 .0) (a .0 .ptr .0) (a .0 .ptr .1) (a .0 .name) (a .0 .now) (a .1 .0) (a .1 .1 .0 .ptr .0) (a .1 .1 .0 .ptr .1) (a .1 .1 .0 .name) (a .1 .1 .0 .now) (are .1 .0) (are .1 .1 .0 .0 .1) C fm known-small known-slots known-worlds) (symOf St′.mir) (tysOf St′.mir) (tyNamed (St-name, [])) (Ky′.mir) (Mx′.mir) (Mt′.mir) (key-typed 𝓤 H A W) refl (view-typed 𝓤 H A W (a .0 .now)) refl (projection-typed 𝓤 H A W (a .0 .now)) refl (palette-typed 𝓤 H A W (a .0 .now)) refl (material-typed 𝓤 H A W (a .0 .now)) refl (dirty-typed 𝓤 H A W (a .0 .now)) (opening 𝓤 H A W mem run (κs .0) (κs .1 .0) (qs .0) (qs .1 .0) (a .0 .ptr .0) (a .0 .ptr .1) (a .0 .name) (a .0 .now) (a .1 .0) (a .1 .1 .0 .ptr .0) (a .1 .1 .0 .ptr .1) (a .1 .1 .0 .name) (a .1 .1 .0 .now) (are .1 .0) (are .1 .1 .0 .0 .1)) (shutting 𝓤 H A W mem run (κs .0) (κs .1 .0) (qs .0) (qs .1 .0) (a .0 .ptr .0) (a .0 .ptr .1) (a .0 .name) (a .0 .now) (a .1 .0) (a .1 .1 .0 .ptr .0) (a .1 .1 .0 .ptr .1) (a .1 .1 .0 .name) (a .1 .1 .0 .now) (are .1 .0) (are .1 .1 .0 .0 .1)) (world-typed 𝓤 H A W (a .0 .now)) long)))
 
-meets : {M : Type 1} (𝓤 : URA M) (H : Heap 𝓤) (A : Atoms 𝓤) → Given 𝓤 H A → (mem : Memory → SProp 𝓤) (run : Routine → Fun 𝓤) (𝓣 : Tables 𝓤 H) → Triple 𝓤 (𝓣 .C #small) (Small 𝓤 H A mem run) → Triple 𝓤 (𝓣 .C #slots) (Slots 𝓤 H A mem run) → Triple 𝓤 (𝓣 .C #worlds) (Worlds 𝓤 H A mem run)
+meets : {M : Type 1} (𝓤 : URA M) (H : Heap 𝓤) (A : Atoms 𝓤) → Given 𝓤 H A → (mem : Memory → SProp 𝓤) (run : Routine → Fun 𝓤) (𝓣 : Tables 𝓤 H) → Triple 𝓤 (𝓣 .C small-def.name) (Small 𝓤 H A mem run) → Triple 𝓤 (𝓣 .C slots-def.name) (Slots 𝓤 H A mem run) → Triple 𝓤 (𝓣 .C worlds-def.name) (Worlds 𝓤 H A mem run)
     → Meets 𝓤 H A f.signature (WpFn 𝓤 H (𝓣 .C) (𝓣 .Λ) code.function) (f.spec 𝓤 H A mem run)
 meets 𝓤 H A W mem run 𝓣 known-small known-slots known-worlds =
     walk-meets 𝓤 H A f.ended stayed W (goes-ref 𝓤 H A W 2 0 tt (plain (λ _. St.the-row)), (goes-none 𝓤 H A W 2 (λ _. Ky.the-row) yes (λ κs x f. refl), (goes-slice 𝓤 H A W 2 1 tt (plain (λ _. f32)), tt))) (f.clauses 𝓤 H A mem run)
@@ -544,8 +542,8 @@ pub write-dirty-spec : {M : Type 1} → stated.statement M
 unfolding code.routine tablesOf
 write-dirty-spec 𝓤 H 𝓜 𝓖 𝓡 =
     entered 𝓤 H (tripleOf 𝓤 H (𝓖 .A) f.signature (f.spec 𝓤 H (𝓖 .A) (𝓜 .mem) (𝓡 .run)))
-    (tables 𝓤 H 𝓜 𝓡 code.env .C) (tables 𝓤 H 𝓜 𝓡 code.env .Λ) #f code.function (code.unfolded 𝓤 H 𝓜 𝓡)
+    (tables 𝓤 H 𝓜 𝓡 code.env .C) (tables 𝓤 H 𝓜 𝓡 code.env .Λ) f-key.name code.function (code.unfolded 𝓤 H 𝓜 𝓡)
     (meets 𝓤 H (𝓖 .A) (givenOf 𝓤 H 𝓜 𝓖) (𝓜 .mem) (𝓡 .run) (tablesOf 𝓤 H 𝓜 (tables 𝓤 H 𝓜 𝓡 code.env))
-    (cited 𝓤 H (Small 𝓤 H (𝓖 .A) (𝓜 .mem) (𝓡 .run)) 𝓜 𝓡 code.env #small small-def.routine code.calls-refresh-parts·write-small (small-thm.met 𝓤 H 𝓜 𝓖 𝓡))
-    (cited 𝓤 H (Slots 𝓤 H (𝓖 .A) (𝓜 .mem) (𝓡 .run)) 𝓜 𝓡 code.env #slots slots-def.routine code.calls-lent-refresh·lights·write-lights-of (slots-thm.met 𝓤 H 𝓜 𝓖 𝓡))
-    (cited 𝓤 H (Worlds 𝓤 H (𝓖 .A) (𝓜 .mem) (𝓡 .run)) 𝓜 𝓡 code.env #worlds worlds-def.routine code.calls-lent-refresh·palette·write-palette-of (worlds-thm.met 𝓤 H 𝓜 𝓖 𝓡)))
+    (cited 𝓤 H (Small 𝓤 H (𝓖 .A) (𝓜 .mem) (𝓡 .run)) 𝓜 𝓡 code.env small-def.name small-def.routine code.calls-refresh-parts·write-small (small-thm.met 𝓤 H 𝓜 𝓖 𝓡))
+    (cited 𝓤 H (Slots 𝓤 H (𝓖 .A) (𝓜 .mem) (𝓡 .run)) 𝓜 𝓡 code.env slots-def.name slots-def.routine code.calls-lent-refresh·lights·write-lights-of (slots-thm.met 𝓤 H 𝓜 𝓖 𝓡))
+    (cited 𝓤 H (Worlds 𝓤 H (𝓖 .A) (𝓜 .mem) (𝓡 .run)) 𝓜 𝓡 code.env worlds-def.name worlds-def.routine code.calls-lent-refresh·palette·write-palette-of (worlds-thm.met 𝓤 H 𝓜 𝓖 𝓡)))

@@ -21,7 +21,8 @@ use prog.Wp.{Heap, Calls, Loops, WpFn, Tables}
 use ghost.Atoms.{Atoms}
 use contract.Monad.{Fun, fact}
 use contract.Running.{givenOf, tables, tablesOf}
-use types.Kit.{Given, ‵, raw, _⊛_, some, later, ⋆, _$_, _∵_, !, qed, by, move, keep, drop, group, use0, use1, use2, use3, split, join, pick, rewrite, fsplit, fsplit3, fjoin, fjoin3, feqL, feqI, suffices, frame, await, updating, now as at-once, show, done}
+use types.Kit as kit
+use types.Kit.{Given, ‵, raw, _⊛_, some, later, ⋆, _$_, _∵_, !, qed, by, move, keep, drop, group, use0, use1, use2, use3, split, join, pick, rewrite, fsplit, fsplit3, fjoin, fjoin3, feqL, feqI, suffices, frame, await, updating, show, done}
 use types.Run.{look, init, forget, stop, hop, fld, from, load, addr, and-then, no-more, assigns, land, returns, enter, alloc1, alloc0, params1, pass1, pass0, free1, free0}
 use types.Part.{agg, whole, sub, look-in}
 use types.SemTy.{Body}
@@ -58,13 +59,11 @@ use Rattle.lent_refresh.proofs.Again as Slices
 use Rattle.lent_refresh.proofs.Cell.{Shut, Mirror, Count, shut-in, mirror-in, count-in}
 use Rattle.pack_calls.proofs.key_of as keys
 use Rattle.pack_calls.proofs.key_of.Symbol as keys-def
-use Rattle.pack_calls.proofs.key_of.Symbol.{name as #keys}
 use Rattle.pack_calls.proofs.key_of.Met as keys-thm
 use Rattle.lent_refresh.proofs.mirror.refresh as core
 use Rattle.lent_refresh.proofs.mirror.refresh.Symbol as core-def
-use Rattle.lent_refresh.proofs.mirror.refresh.Symbol.{name as #core}
 use Rattle.lent_refresh.proofs.mirror.refresh.Met as core-thm
-use Rattle.lent_refresh.proofs.host.ff_state_refresh.Key.{name as #f}
+use Rattle.lent_refresh.proofs.host.ff_state_refresh.Key as f-key
 use Rattle.lent_refresh.proofs.host.ff_state_refresh as f
 use Rattle.lent_refresh.proofs.host.ff_state_refresh.Statement as stated
 use Rattle.lent_refresh.proofs.host.ff_state_refresh.Code as code
@@ -80,7 +79,7 @@ codeOf σ nm tk =
       outlives = [];
       params = 10;
       locals = local (tyInt w32) valueLocal ∷ local (tyRef (named 0) mut nm) valueLocal ∷ local (tyInt w8) valueLocal ∷ local (tyInt w8) valueLocal ∷ local (tyInt w8) valueLocal ∷ local (tyInt w8) valueLocal ∷ local (tyInt w8) valueLocal ∷ local (tyInt w8) valueLocal ∷ local (tyInt w8) valueLocal ∷ local (tyStruct (38 ∷ 91 ∷ 93 ∷ []) (tcons (tyRef (named 1) mut (tyFloat binary32)) (tcons (tyInt w64) tnil))) valueLocal ∷ local (tyRef (named 2) mut (tyInt w32)) valueLocal ∷ local tk valueLocal ∷ local (tyRef erased mut nm) valueLocal ∷ local (tyRef erased mut (tyFloat binary32)) valueLocal ∷ local (tyStruct (38 ∷ 91 ∷ 93 ∷ []) (tcons (tyRef erased mut (tyFloat binary32)) (tcons (tyInt w64) tnil))) valueLocal ∷ local (tyRef erased mut (tyInt w32)) valueLocal ∷ [];
-      body = seq (call #keys (copy (place 2 ([])) ∷ copy (place 3 ([])) ∷ copy (place 4 ([])) ∷ copy (place 5 ([])) ∷ copy (place 6 ([])) ∷ copy (place 7 ([])) ∷ copy (place 8 ([])) ∷ []) (place 11 ([]))) (seq (assign (place 12 ([])) (addrOf (place 1 (deref σ ∷ [])))) (seq (assign (place 13 ([])) (addrOf (place 9 (field 0 ∷ deref (tyFloat binary32) ∷ [])))) (seq (assign (place 14 ([])) (aggregate (copy (place 13 ([])) ∷ copy (place 9 (field 1 ∷ [])) ∷ []))) (seq (assign (place 15 ([])) (addrOf (place 10 (deref (tyInt w32) ∷ [])))) (seq (call #core (copy (place 12 ([])) ∷ copy (place 11 ([])) ∷ copy (place 14 ([])) ∷ copy (place 15 ([])) ∷ []) (place 0 ([]))) return)))));
+      body = seq (call keys-def.name (copy (place 2 ([])) ∷ copy (place 3 ([])) ∷ copy (place 4 ([])) ∷ copy (place 5 ([])) ∷ copy (place 6 ([])) ∷ copy (place 7 ([])) ∷ copy (place 8 ([])) ∷ []) (place 11 ([]))) (seq (assign (place 12 ([])) (addrOf (place 1 (deref σ ∷ [])))) (seq (assign (place 13 ([])) (addrOf (place 9 (field 0 ∷ deref (tyFloat binary32) ∷ [])))) (seq (assign (place 14 ([])) (aggregate (copy (place 13 ([])) ∷ copy (place 9 (field 1 ∷ [])) ∷ []))) (seq (assign (place 15 ([])) (addrOf (place 10 (deref (tyInt w32) ∷ [])))) (seq (call core-def.name (copy (place 12 ([])) ∷ copy (place 11 ([])) ∷ copy (place 14 ([])) ∷ copy (place 15 ([])) ∷ []) (place 0 ([]))) return)))));
     }
 
 abbrev Keys : {M : Type 1} (𝓤 : URA M) (H : Heap 𝓤) (A : Atoms 𝓤) (mem : Memory → SProp 𝓤) (run : Routine → Fun 𝓤) → Contract 𝓤
@@ -239,7 +238,7 @@ module _ {M : Type 1} (𝓤 : URA M) (H : Heap 𝓤) (A : Atoms 𝓤) (W : Given
       move ! (1 ∷ []) $
       peeks ! Ky.the-row (Is Ky.the-row) (shows 𝓤 H A Ky.the-row) r (v ∷ []) (λ is. drop ! $
       drop ! $
-      at-once ! $ show ! (λ (p : FfVsKey). sep 𝓤 (emp 𝓤) (fact 𝓤 (((v ≡ keyVal (p)) × IsKey (p)) × (p ≡ keyOf rhw lit-on specular indexed mask fog count)))) (r) $ says ! (((ap only (LL.tells Ky.the-type Ky′.the-laws r _ is), key-is r is), e)) $
+      kit.now ! $ show ! (λ (p : FfVsKey). sep 𝓤 (emp 𝓤) (fact 𝓤 (((v ≡ keyVal (p)) × IsKey (p)) × (p ≡ keyOf rhw lit-on specular indexed mask fog count)))) (r) $ says ! (((ap only (LL.tells Ky.the-type Ky′.the-laws r _ is), key-is r is), e)) $
       keep ! [] $
       done !))))
 
@@ -322,20 +321,20 @@ module _ {M : Type 1} (𝓤 : URA M) (H : Heap 𝓤) (A : Atoms 𝓤) (W : Given
       use3 W (later (‵ (MutRef (named 2) κ″ u32 .own (at-ref b″ o″ γ″ (ws .1 .1 .1 .0)) (vptr b″ o″ ∷ [])) ⊛ ‵ (flft κ″ q″))) (comes-back 𝓤 H A W u32 (named 2) κ″ (ν″ ∷ []) q″ γ″ b″ o″ δ″ g (ws .1 .1 .1 .0)) $ await ! tt $ split ! $
       rewrite ! 0 (λ (w : ℕ). ‵ (MutRef (named 2) κ″ u32 .own (at-ref b″ o″ γ″ w) (vptr b″ o″ ∷ []))) (ap (λ (u : LentRefreshed). u .bits) e) refl $ fsplit3 ! $ drop ! $
       group ! 3 $
-      at-once ! $ show ! (λ (p : ℕ × List Float). sep 𝓤 (⋆ 𝓤 H A (raw (Shut 𝓤 H A κ q b o γ (lentRefresh h (keyOf rhw lit-on specular indexed mask fog count) (l) g .state)) ∷ raw (Mirror 𝓤 H A κ′ q′ b′ o′ γ′ (length l) (p .1)) ∷ raw (Count 𝓤 H A κ″ q″ b″ o″ γ″ (lentRefresh h (keyOf rhw lit-on specular indexed mask fog count) (l) g .bits)) ∷ [])) (fact 𝓤 (((v ≡ vint w32 (p .0)) × ((p .0) < 2 ^ 32)) × (((p .1) ≡ lentRefresh h (keyOf rhw lit-on specular indexed mask fog count) (l) g .floats) × ((length (p .1) ≡ length l) × (p .0 ≡ lentRefresh h (keyOf rhw lit-on specular indexed mask fog count) (l) g .number)))))) ((r, ws .1 .1 .0)) $ says ! (((ap only (uint-tells w32 r _ is), is .1), (ap (λ (u : LentRefreshed). u .floats) e, (same, ap (λ (u : LentRefreshed). u .number) e)))) $
+      kit.now ! $ show ! (λ (p : ℕ × List Float). sep 𝓤 (⋆ 𝓤 H A (raw (Shut 𝓤 H A κ q b o γ (lentRefresh h (keyOf rhw lit-on specular indexed mask fog count) (l) g .state)) ∷ raw (Mirror 𝓤 H A κ′ q′ b′ o′ γ′ (length l) (p .1)) ∷ raw (Count 𝓤 H A κ″ q″ b″ o″ γ″ (lentRefresh h (keyOf rhw lit-on specular indexed mask fog count) (l) g .bits)) ∷ [])) (fact 𝓤 (((v ≡ vint w32 (p .0)) × ((p .0) < 2 ^ 32)) × (((p .1) ≡ lentRefresh h (keyOf rhw lit-on specular indexed mask fog count) (l) g .floats) × ((length (p .1) ≡ length l) × (p .0 ≡ lentRefresh h (keyOf rhw lit-on specular indexed mask fog count) (l) g .number)))))) ((r, ws .1 .1 .0)) $ says ! (((ap only (uint-tells w32 r _ is), is .1), (ap (λ (u : LentRefreshed). u .floats) e, (same, ap (λ (u : LentRefreshed). u .number) e)))) $
       keep ! (2 ∷ 1 ∷ 0 ∷ []) $
       done !)))))
 
-  module _ (C : Calls 𝓤 H) (fm : FmC 𝓤 H (W .laws) C) (known-keys : Triple 𝓤 (C #keys) (Keys 𝓤 H A at-mem run)) (known-core : Triple 𝓤 (C #core) (Core 𝓤 H A at-mem run)) where
-    calls-keys : ent 𝓤 (emp 𝓤) (H .⇛ (C #keys (vint w8 rhw ∷ vint w8 lit-on ∷ vint w8 specular ∷ vint w8 indexed ∷ vint w8 mask ∷ vint w8 fog ∷ vint w8 count ∷ []) (After-keys)))
+  module _ (C : Calls 𝓤 H) (fm : FmC 𝓤 H (W .laws) C) (known-keys : Triple 𝓤 (C keys-def.name) (Keys 𝓤 H A at-mem run)) (known-core : Triple 𝓤 (C core-def.name) (Core 𝓤 H A at-mem run)) where
+    calls-keys : ent 𝓤 (emp 𝓤) (H .⇛ (C keys-def.name (vint w8 rhw ∷ vint w8 lit-on ∷ vint w8 specular ∷ vint w8 indexed ∷ vint w8 mask ∷ vint w8 fog ∷ vint w8 count ∷ []) (After-keys)))
     calls-keys =
         qed W ([]) ∵ updating ! $
         use0 W (raw (Keys 𝓤 H A at-mem run .pre to-keys)) (goes-keys) $
-        use1 W (raw (C #keys (vint w8 rhw ∷ vint w8 lit-on ∷ vint w8 specular ∷ vint w8 indexed ∷ vint w8 mask ∷ vint w8 fog ∷ vint w8 count ∷ []) (Keys 𝓤 H A at-mem run .post to-keys))) (known-keys to-keys) $
+        use1 W (raw (C keys-def.name (vint w8 rhw ∷ vint w8 lit-on ∷ vint w8 specular ∷ vint w8 indexed ∷ vint w8 mask ∷ vint w8 fog ∷ vint w8 count ∷ []) (Keys 𝓤 H A at-mem run .post to-keys))) (known-keys to-keys) $
         nothing ! $ move ! (1 ∷ 0 ∷ []) $
-        at-once ! $ by ! (fm #keys (vint w8 rhw ∷ vint w8 lit-on ∷ vint w8 specular ∷ vint w8 indexed ∷ vint w8 mask ∷ vint w8 fog ∷ vint w8 count ∷ []) (Keys 𝓤 H A at-mem run .post to-keys) (After-keys) (emp 𝓤) (back-keys))
+        kit.now ! $ by ! (fm keys-def.name (vint w8 rhw ∷ vint w8 lit-on ∷ vint w8 specular ∷ vint w8 indexed ∷ vint w8 mask ∷ vint w8 fog ∷ vint w8 count ∷ []) (Keys 𝓤 H A at-mem run .post to-keys) (After-keys) (emp 𝓤) (back-keys))
 
-    calls-core-at : (l : List Float) → Room f32 (length l) → IsKey (keyOf rhw lit-on specular indexed mask fog count) → ent 𝓤 (⋆ 𝓤 H A (raw (Shut 𝓤 H A κ q b o γ (h)) ∷ raw (Mirror 𝓤 H A κ′ q′ b′ o′ γ′ (length l) (l)) ∷ raw (Count 𝓤 H A κ″ q″ b″ o″ γ″ (g)) ∷ [])) (H .⇛ (C #core (vptr b o ∷ keyVal (keyOf rhw lit-on specular indexed mask fog count) ∷ sliceVal (b′, o′) (length l) ∷ vptr b″ o″ ∷ []) (After-core (length l) (l))))
+    calls-core-at : (l : List Float) → Room f32 (length l) → IsKey (keyOf rhw lit-on specular indexed mask fog count) → ent 𝓤 (⋆ 𝓤 H A (raw (Shut 𝓤 H A κ q b o γ (h)) ∷ raw (Mirror 𝓤 H A κ′ q′ b′ o′ γ′ (length l) (l)) ∷ raw (Count 𝓤 H A κ″ q″ b″ o″ γ″ (g)) ∷ [])) (H .⇛ (C core-def.name (vptr b o ∷ keyVal (keyOf rhw lit-on specular indexed mask fog count) ∷ sliceVal (b′, o′) (length l) ∷ vptr b″ o″ ∷ []) (After-core (length l) (l))))
     unfolding Shut Mirror Count
     calls-core-at l room k-is =
         qed W ((‵ (fobs γ (St.the-row .coded .code (h))) ⊛ ‵ (fbor κ (Body (mem St.the-row) b o γ)) ⊛ ‵ (flft κ q)) ∷ (‵ (MutSlice (named 1) κ′ f32 .own (at-ref b′ o′ γ′ (l)) (sliceVal (b′, o′) (length l) ∷ [])) ⊛ ‵ (flft κ′ q′)) ∷ (‵ (fobs γ″ (u32 .coded .code (g))) ⊛ ‵ (fbor κ″ (Body (mem u32) b″ o″ γ″)) ⊛ ‵ (flft κ″ q″)) ∷ []) ∵ updating ! $
@@ -363,22 +362,22 @@ module _ {M : Type 1} (𝓤 : URA M) (H : Heap 𝓤) (A : Atoms 𝓤) (W : Given
         use2 W (later (some (λ (δ″ : GName). ‵ (MutRef (named 2) (ν″ ∷ []) u32 .own (at-ref b″ o″ δ″ g) (vptr b″ o″ ∷ [])) ⊛ ‵ (LentAgain u32 κ″ (ν″ ∷ []) q″ γ″ b″ o″ δ″ g)))) (lends-again 𝓤 H A W u32 (named 2) κ″ (ν″ ∷ []) q″ γ″ b″ o″ (named 2) g) $ await ! tt $ pick ! (λ δ″. split ! $
         move ! (8 ∷ 5 ∷ 2 ∷ 6 ∷ 3 ∷ 0 ∷ []) $
         group ! 6 $ use1 W (raw (Core 𝓤 H A at-mem run .pre (to-core l ν δ ν′ δ′ ν″ δ″))) (goes-core l ν δ ν′ δ′ ν″ δ″ k-is) $
-        use1 W (raw (C #core (vptr b o ∷ keyVal (keyOf rhw lit-on specular indexed mask fog count) ∷ sliceVal (b′, o′) (length l) ∷ vptr b″ o″ ∷ []) (Core 𝓤 H A at-mem run .post (to-core l ν δ ν′ δ′ ν″ δ″)))) (known-core (to-core l ν δ ν′ δ′ ν″ δ″)) $
+        use1 W (raw (C core-def.name (vptr b o ∷ keyVal (keyOf rhw lit-on specular indexed mask fog count) ∷ sliceVal (b′, o′) (length l) ∷ vptr b″ o″ ∷ []) (Core 𝓤 H A at-mem run .post (to-core l ν δ ν′ δ′ ν″ δ″)))) (known-core (to-core l ν δ ν′ δ′ ν″ δ″)) $
         keep ! (0 ∷ 3 ∷ 2 ∷ 1 ∷ []) $
-        at-once ! $ by ! (fm #core (vptr b o ∷ keyVal (keyOf rhw lit-on specular indexed mask fog count) ∷ sliceVal (b′, o′) (length l) ∷ vptr b″ o″ ∷ []) (Core 𝓤 H A at-mem run .post (to-core l ν δ ν′ δ′ ν″ δ″)) (After-core (length l) l) (⋆ 𝓤 H A (‵ (LentAgain St.the-row κ (ν ∷ []) q γ b o δ (h)) ∷ ‵ (Slices.LentAgain f32 κ′ (ν′ ∷ []) q′ γ′ b′ o′ δ′ l) ∷ ‵ (LentAgain u32 κ″ (ν″ ∷ []) q″ γ″ b″ o″ δ″ g) ∷ [])) (back-core l room ν δ ν′ δ′ ν″ δ″))))))))
+        kit.now ! $ by ! (fm core-def.name (vptr b o ∷ keyVal (keyOf rhw lit-on specular indexed mask fog count) ∷ sliceVal (b′, o′) (length l) ∷ vptr b″ o″ ∷ []) (Core 𝓤 H A at-mem run .post (to-core l ν δ ν′ δ′ ν″ δ″)) (After-core (length l) l) (⋆ 𝓤 H A (‵ (LentAgain St.the-row κ (ν ∷ []) q γ b o δ (h)) ∷ ‵ (Slices.LentAgain f32 κ′ (ν′ ∷ []) q′ γ′ b′ o′ δ′ l) ∷ ‵ (LentAgain u32 κ″ (ν″ ∷ []) q″ γ″ b″ o″ δ″ g) ∷ [])) (back-core l room ν δ ν′ δ′ ν″ δ″))))))))
 
-    calls-core : (n : ℕ) (l : List Float) → length l ≡ n → Room f32 n → IsKey (keyOf rhw lit-on specular indexed mask fog count) → ent 𝓤 (⋆ 𝓤 H A (raw (Shut 𝓤 H A κ q b o γ (h)) ∷ raw (Mirror 𝓤 H A κ′ q′ b′ o′ γ′ (n) (l)) ∷ raw (Count 𝓤 H A κ″ q″ b″ o″ γ″ (g)) ∷ [])) (H .⇛ (C #core (vptr b o ∷ keyVal (keyOf rhw lit-on specular indexed mask fog count) ∷ sliceVal (b′, o′) (n) ∷ vptr b″ o″ ∷ []) (After-core (n) (l))))
-    calls-core n l same room k-is = subst (λ (m : ℕ). ent 𝓤 (⋆ 𝓤 H A (raw (Shut 𝓤 H A κ q b o γ (h)) ∷ raw (Mirror 𝓤 H A κ′ q′ b′ o′ γ′ (m) (l)) ∷ raw (Count 𝓤 H A κ″ q″ b″ o″ γ″ (g)) ∷ [])) (H .⇛ (C #core (vptr b o ∷ keyVal (keyOf rhw lit-on specular indexed mask fog count) ∷ sliceVal (b′, o′) (m) ∷ vptr b″ o″ ∷ []) (After-core (m) (l))))) same (calls-core-at l (subst (Room f32) (sym same) room) k-is)
+    calls-core : (n : ℕ) (l : List Float) → length l ≡ n → Room f32 n → IsKey (keyOf rhw lit-on specular indexed mask fog count) → ent 𝓤 (⋆ 𝓤 H A (raw (Shut 𝓤 H A κ q b o γ (h)) ∷ raw (Mirror 𝓤 H A κ′ q′ b′ o′ γ′ (n) (l)) ∷ raw (Count 𝓤 H A κ″ q″ b″ o″ γ″ (g)) ∷ [])) (H .⇛ (C core-def.name (vptr b o ∷ keyVal (keyOf rhw lit-on specular indexed mask fog count) ∷ sliceVal (b′, o′) (n) ∷ vptr b″ o″ ∷ []) (After-core (n) (l))))
+    calls-core n l same room k-is = subst (λ (m : ℕ). ent 𝓤 (⋆ 𝓤 H A (raw (Shut 𝓤 H A κ q b o γ (h)) ∷ raw (Mirror 𝓤 H A κ′ q′ b′ o′ γ′ (m) (l)) ∷ raw (Count 𝓤 H A κ″ q″ b″ o″ γ″ (g)) ∷ [])) (H .⇛ (C core-def.name (vptr b o ∷ keyVal (keyOf rhw lit-on specular indexed mask fog count) ∷ sliceVal (b′, o′) (m) ∷ vptr b″ o″ ∷ []) (After-core (m) (l))))) same (calls-core-at l (subst (Room f32) (sym same) room) k-is)
 
-  module _ (Post : Val → SProp 𝓤) (leaves : (r : ℕ) (z : FfState) (zs : List Float) (n′ : ℕ) → r < 2 ^ 32 → left r z zs n′ ≡ lentRefresh h (keyOf rhw lit-on specular indexed mask fog count) (ys) g → length zs ≡ length ys → ent 𝓤 (⋆ 𝓤 H A (raw (Shut 𝓤 H A κ q b o γ (z)) ∷ raw (Mirror 𝓤 H A κ′ q′ b′ o′ γ′ (length ys) (zs)) ∷ raw (Count 𝓤 H A κ″ q″ b″ o″ γ″ (n′)) ∷ [])) (Post (vint w32 r))) (C : Calls 𝓤 H) (Λ : Loops 𝓤 H) (fm : FmC 𝓤 H (W .laws) C) (calls-keys : ent 𝓤 (emp 𝓤) (H .⇛ (C #keys (vint w8 rhw ∷ vint w8 lit-on ∷ vint w8 specular ∷ vint w8 indexed ∷ vint w8 mask ∷ vint w8 fog ∷ vint w8 count ∷ []) (After-keys)))) (calls-core : (n : ℕ) (l : List Float) → length l ≡ n → Room f32 n → IsKey (keyOf rhw lit-on specular indexed mask fog count) → ent 𝓤 (⋆ 𝓤 H A (raw (Shut 𝓤 H A κ q b o γ (h)) ∷ raw (Mirror 𝓤 H A κ′ q′ b′ o′ γ′ (n) (l)) ∷ raw (Count 𝓤 H A κ″ q″ b″ o″ γ″ (g)) ∷ [])) (H .⇛ (C #core (vptr b o ∷ keyVal (keyOf rhw lit-on specular indexed mask fog count) ∷ sliceVal (b′, o′) (n) ∷ vptr b″ o″ ∷ []) (After-core (n) (l))))) (ν : Sym) (τs : Tys) (nm tk : Ty) (key-typed′ : (k : FfVsKey) → IsKey k → T (hasTy tk (keyVal k)) × WT (keyVal k)) where
+  module _ (Post : Val → SProp 𝓤) (leaves : (r : ℕ) (z : FfState) (zs : List Float) (n′ : ℕ) → r < 2 ^ 32 → left r z zs n′ ≡ lentRefresh h (keyOf rhw lit-on specular indexed mask fog count) (ys) g → length zs ≡ length ys → ent 𝓤 (⋆ 𝓤 H A (raw (Shut 𝓤 H A κ q b o γ (z)) ∷ raw (Mirror 𝓤 H A κ′ q′ b′ o′ γ′ (length ys) (zs)) ∷ raw (Count 𝓤 H A κ″ q″ b″ o″ γ″ (n′)) ∷ [])) (Post (vint w32 r))) (C : Calls 𝓤 H) (Λ : Loops 𝓤 H) (fm : FmC 𝓤 H (W .laws) C) (calls-keys : ent 𝓤 (emp 𝓤) (H .⇛ (C keys-def.name (vint w8 rhw ∷ vint w8 lit-on ∷ vint w8 specular ∷ vint w8 indexed ∷ vint w8 mask ∷ vint w8 fog ∷ vint w8 count ∷ []) (After-keys)))) (calls-core : (n : ℕ) (l : List Float) → length l ≡ n → Room f32 n → IsKey (keyOf rhw lit-on specular indexed mask fog count) → ent 𝓤 (⋆ 𝓤 H A (raw (Shut 𝓤 H A κ q b o γ (h)) ∷ raw (Mirror 𝓤 H A κ′ q′ b′ o′ γ′ (n) (l)) ∷ raw (Count 𝓤 H A κ″ q″ b″ o″ γ″ (g)) ∷ [])) (H .⇛ (C core-def.name (vptr b o ∷ keyVal (keyOf rhw lit-on specular indexed mask fog count) ∷ sliceVal (b′, o′) (n) ∷ vptr b″ o″ ∷ []) (After-core (n) (l))))) (ν : Sym) (τs : Tys) (nm tk : Ty) (key-typed′ : (k : FfVsKey) → IsKey k → T (hasTy tk (keyVal k)) × WT (keyVal k)) where
     walk : ent 𝓤 (⋆ 𝓤 H A (raw (Shut 𝓤 H A κ q b o γ (h)) ∷ raw (Mirror 𝓤 H A κ′ q′ b′ o′ γ′ (length ys) (ys)) ∷ raw (Count 𝓤 H A κ″ q″ b″ o″ γ″ (g)) ∷ [])) (WpFn 𝓤 H C Λ (codeOf (tyStruct ν τs) nm tk) (vptr b o ∷ vint w8 rhw ∷ vint w8 lit-on ∷ vint w8 specular ∷ vint w8 indexed ∷ vint w8 mask ∷ vint w8 fog ∷ vint w8 count ∷ mirrorVal ∷ vptr b″ o″ ∷ []) Post)
     walk =
         qed W (raw (Shut 𝓤 H A κ q b o γ (h)) ∷ raw (Mirror 𝓤 H A κ′ q′ b′ o′ γ′ (length ys) (ys)) ∷ raw (Count 𝓤 H A κ″ q″ b″ o″ γ″ (g)) ∷ []) ∵
         enter ! C Λ (codeOf (tyStruct ν τs) nm tk) (vptr b o ∷ vint w8 rhw ∷ vint w8 lit-on ∷ vint w8 specular ∷ vint w8 indexed ∷ vint w8 mask ∷ vint w8 fog ∷ vint w8 count ∷ mirrorVal ∷ vptr b″ o″ ∷ []) _ $
         alloc1 ! (λ l₀. alloc1 ! (λ l₁. alloc1 ! (λ l₂. alloc1 ! (λ l₃. alloc1 ! (λ l₄. alloc1 ! (λ l₅. alloc1 ! (λ l₆. alloc1 ! (λ l₇. alloc1 ! (λ l₈. alloc1 ! (λ l₉. alloc1 ! (λ l₁₀. alloc1 ! (λ l₁₁. alloc1 ! (λ l₁₂. alloc1 ! (λ l₁₃. alloc1 ! (λ l₁₄. alloc1 ! (λ l₁₅. alloc0 ! $ params1 ! $
         pass1 ! (init ! 28 refl (tt, tt)) $ pass1 ! (init ! 26 refl (tt, record { fits = rhw-fits })) $ pass1 ! (init ! 24 refl (tt, record { fits = lit-on-fits })) $ pass1 ! (init ! 22 refl (tt, record { fits = specular-fits })) $ pass1 ! (init ! 20 refl (tt, record { fits = indexed-fits })) $ pass1 ! (init ! 18 refl (tt, record { fits = mask-fits })) $ pass1 ! (init ! 16 refl (tt, record { fits = fog-fits })) $ pass1 ! (init ! 14 refl (tt, record { fits = count-fits })) $ pass1 ! (init ! 12 refl (tt, (tt, (record { fits = room .0 }, tt)))) $ pass1 ! (init ! 10 refl (tt, tt)) $ pass0 ! $
-        use0 W (later (raw (C #keys (vint w8 rhw ∷ vint w8 lit-on ∷ vint w8 specular ∷ vint w8 indexed ∷ vint w8 mask ∷ vint w8 fog ∷ vint w8 count ∷ []) (After-keys)))) (calls-keys) $ await ! tt $
-        calls-from ! fm (raw (C #keys (vint w8 rhw ∷ vint w8 lit-on ∷ vint w8 specular ∷ vint w8 indexed ∷ vint w8 mask ∷ vint w8 fog ∷ vint w8 count ∷ []) (After-keys))) (vint w8 rhw ∷ vint w8 lit-on ∷ vint w8 specular ∷ vint w8 indexed ∷ vint w8 mask ∷ vint w8 fog ∷ vint w8 count ∷ []) (After-keys) (id⊢ 𝓤 _) (and-then ! (load ! (from ! (stop !)) (look ! 27 refl)) (and-then ! (load ! (from ! (stop !)) (look ! 25 refl)) (and-then ! (load ! (from ! (stop !)) (look ! 23 refl)) (and-then ! (load ! (from ! (stop !)) (look ! 21 refl)) (and-then ! (load ! (from ! (stop !)) (look ! 19 refl)) (and-then ! (load ! (from ! (stop !)) (look ! 17 refl)) (and-then ! (load ! (from ! (stop !)) (look ! 15 refl)) (no-more !)))))))) (λ vk.
+        use0 W (later (raw (C keys-def.name (vint w8 rhw ∷ vint w8 lit-on ∷ vint w8 specular ∷ vint w8 indexed ∷ vint w8 mask ∷ vint w8 fog ∷ vint w8 count ∷ []) (After-keys)))) (calls-keys) $ await ! tt $
+        calls-from ! fm (raw (C keys-def.name (vint w8 rhw ∷ vint w8 lit-on ∷ vint w8 specular ∷ vint w8 indexed ∷ vint w8 mask ∷ vint w8 fog ∷ vint w8 count ∷ []) (After-keys))) (vint w8 rhw ∷ vint w8 lit-on ∷ vint w8 specular ∷ vint w8 indexed ∷ vint w8 mask ∷ vint w8 fog ∷ vint w8 count ∷ []) (After-keys) (id⊢ 𝓤 _) (and-then ! (load ! (from ! (stop !)) (look ! 27 refl)) (and-then ! (load ! (from ! (stop !)) (look ! 25 refl)) (and-then ! (load ! (from ! (stop !)) (look ! 23 refl)) (and-then ! (load ! (from ! (stop !)) (look ! 21 refl)) (and-then ! (load ! (from ! (stop !)) (look ! 19 refl)) (and-then ! (load ! (from ! (stop !)) (look ! 17 refl)) (and-then ! (load ! (from ! (stop !)) (look ! 15 refl)) (no-more !)))))))) (λ vk.
         use1 W (later (some (λ (k : FfVsKey). (‵ ftrue) ⊛ raw (fact 𝓤 (((vk ≡ keyVal (k)) × IsKey (k)) × (k ≡ keyOf rhw lit-on specular indexed mask fog count)))))) (id⊢ 𝓤 _) $ await ! tt $ pick ! (λ k.
         split ! $ move ! (1 ∷ []) $ heard ! (((vk ≡ keyVal (k)) × IsKey (k)) × (k ≡ keyOf rhw lit-on specular indexed mask fog count)) (λ ek.
         drop ! $
@@ -391,8 +390,8 @@ module _ {M : Type 1} (𝓤 : URA M) (H : Heap 𝓤) (A : Atoms 𝓤) (W : Given
         assigns ! (addr ! (from ! (hop ! (look ! 10 refl) (stop !)))) (from ! (stop !)) (init ! 0 refl (tt, tt)) $
         move ! (32 ∷ 33 ∷ 34 ∷ []) $
         group ! 3 $
-        use1 W (later (raw (C #core (vptr b o ∷ keyVal (keyOf rhw lit-on specular indexed mask fog count) ∷ sliceVal (b′, o′) (length ys) ∷ vptr b″ o″ ∷ []) (After-core (length ys) (ys))))) (calls-core (length ys) (ys) (refl) room (subst IsKey (ek .1) (ek .0 .1))) $ await ! tt $
-        calls-from ! fm (raw (C #core (vptr b o ∷ keyVal (keyOf rhw lit-on specular indexed mask fog count) ∷ sliceVal (b′, o′) (length ys) ∷ vptr b″ o″ ∷ []) (After-core (length ys) (ys)))) (vptr b o ∷ keyVal (keyOf rhw lit-on specular indexed mask fog count) ∷ sliceVal (b′, o′) (length ys) ∷ vptr b″ o″ ∷ []) (After-core (length ys) (ys)) (id⊢ 𝓤 _) (and-then ! (load ! (from ! (stop !)) (look ! 7 refl)) (and-then ! (load ! (from ! (stop !)) (look ! 9 refl)) (and-then ! (load ! (from ! (stop !)) (look ! 3 refl)) (and-then ! (load ! (from ! (stop !)) (look ! 1 refl)) (no-more !))))) (λ vp.
+        use1 W (later (raw (C core-def.name (vptr b o ∷ keyVal (keyOf rhw lit-on specular indexed mask fog count) ∷ sliceVal (b′, o′) (length ys) ∷ vptr b″ o″ ∷ []) (After-core (length ys) (ys))))) (calls-core (length ys) (ys) (refl) room (subst IsKey (ek .1) (ek .0 .1))) $ await ! tt $
+        calls-from ! fm (raw (C core-def.name (vptr b o ∷ keyVal (keyOf rhw lit-on specular indexed mask fog count) ∷ sliceVal (b′, o′) (length ys) ∷ vptr b″ o″ ∷ []) (After-core (length ys) (ys)))) (vptr b o ∷ keyVal (keyOf rhw lit-on specular indexed mask fog count) ∷ sliceVal (b′, o′) (length ys) ∷ vptr b″ o″ ∷ []) (After-core (length ys) (ys)) (id⊢ 𝓤 _) (and-then ! (load ! (from ! (stop !)) (look ! 7 refl)) (and-then ! (load ! (from ! (stop !)) (look ! 9 refl)) (and-then ! (load ! (from ! (stop !)) (look ! 3 refl)) (and-then ! (load ! (from ! (stop !)) (look ! 1 refl)) (no-more !))))) (λ vp.
         use1 W (later (some (λ (p : ℕ × List Float). (raw (Shut 𝓤 H A κ q b o γ (lentRefresh h (keyOf rhw lit-on specular indexed mask fog count) ys g .state)) ⊛ raw (Mirror 𝓤 H A κ′ q′ b′ o′ γ′ (length ys) (p .1)) ⊛ raw (Count 𝓤 H A κ″ q″ b″ o″ γ″ (lentRefresh h (keyOf rhw lit-on specular indexed mask fog count) ys g .bits))) ⊛ raw (fact 𝓤 (((vp ≡ vint w32 (p .0)) × ((p .0) < 2 ^ 32)) × (((p .1) ≡ lentRefresh h (keyOf rhw lit-on specular indexed mask fog count) (ys) g .floats) × ((length (p .1) ≡ length ys) × (p .0 ≡ lentRefresh h (keyOf rhw lit-on specular indexed mask fog count) ys g .number)))))))) (id⊢ 𝓤 _) $ await ! tt $ pick ! (λ p.
         split ! $ move ! (1 ∷ []) $ heard ! (((vp ≡ vint w32 (p .0)) × ((p .0) < 2 ^ 32)) × (((p .1) ≡ lentRefresh h (keyOf rhw lit-on specular indexed mask fog count) (ys) g .floats) × ((length (p .1) ≡ length ys) × (p .0 ≡ lentRefresh h (keyOf rhw lit-on specular indexed mask fog count) ys g .number)))) (λ ep.
         split ! $
@@ -408,11 +407,11 @@ module _ {M : Type 1} (𝓤 : URA M) (H : Heap 𝓤) (A : Atoms 𝓤) (W : Given
         by ! (leaves (p .0) (lentRefresh h (keyOf rhw lit-on specular indexed mask fog count) (ys) g .state) (p .1) (lentRefresh h (keyOf rhw lit-on specular indexed mask fog count) (ys) g .bits) (ep .0 .1) (all-left _ (ep .1 .1 .1) (ep .1 .0)) (ep .1 .1 .0))))))))))))))))))))))))
 
 module _ {M : Type 1} (𝓤 : URA M) (H : Heap 𝓤) (A : Atoms 𝓤) (W : Given 𝓤 H A) (mem : Memory → SProp 𝓤) (run : Routine → Fun 𝓤) where
-  walks : (C : Calls 𝓤 H) (Λ : Loops 𝓤 H) → FmC 𝓤 H (W .laws) C → Triple 𝓤 (C #keys) (Keys 𝓤 H A mem run) → Triple 𝓤 (C #core) (Core 𝓤 H A mem run) → Walks 𝓤 H A f.ended stayed (WpFn 𝓤 H C Λ code.function) (f.clauses 𝓤 H A mem run)
+  walks : (C : Calls 𝓤 H) (Λ : Loops 𝓤 H) → FmC 𝓤 H (W .laws) C → Triple 𝓤 (C keys-def.name) (Keys 𝓤 H A mem run) → Triple 𝓤 (C core-def.name) (Core 𝓤 H A mem run) → Walks 𝓤 H A f.ended stayed (WpFn 𝓤 H C Λ code.function) (f.clauses 𝓤 H A mem run)
   walks C Λ fm known-keys known-core = walked 𝓤 H A f.ended stayed (f.clauses 𝓤 H A mem run) (WpFn 𝓤 H C Λ code.function) (λ κs. (ptr-vals, (uint-vals w8, (uint-vals w8, (uint-vals w8, (uint-vals w8, (uint-vals w8, (uint-vals w8, (uint-vals w8, (slice-vals, (ptr-vals, tt))))))))))) (λ κs. (mut-tells (named 0) (κs .0) St.the-row, (uint-tells w8, (uint-tells w8, (uint-tells w8, (uint-tells w8, (uint-tells w8, (uint-tells w8, (uint-tells w8, (mut-slice-tells (named 1) (κs .1 .0) f32, (mut-tells (named 2) (κs .1 .1 .0) u32, tt)))))))))))
       (λ κs qs bounds a g are. via 𝓤 _ (fst∗ 𝓤 _ (emp 𝓤)) (via 𝓤 _ (starts 𝓤 H A W mem run (κs .0) (κs .1 .0) (κs .1 .1 .0) (qs .0) (qs .1 .0) (qs .1 .1 .0) (a .0 .ptr .0) (a .0 .ptr .1) (a .0 .name) (a .0 .now) (a .1 .0) (a .1 .1 .0) (a .1 .1 .1 .0) (a .1 .1 .1 .1 .0) (a .1 .1 .1 .1 .1 .0) (a .1 .1 .1 .1 .1 .1 .0) (a .1 .1 .1 .1 .1 .1 .1 .0) (a .1 .1 .1 .1 .1 .1 .1 .1 .0 .ptr .0) (a .1 .1 .1 .1 .1 .1 .1 .1 .0 .ptr .1) (a .1 .1 .1 .1 .1 .1 .1 .1 .0 .name) (a .1 .1 .1 .1 .1 .1 .1 .1 .0 .now) (a .1 .1 .1 .1 .1 .1 .1 .1 .1 .0 .ptr .0) (a .1 .1 .1 .1 .1 .1 .1 .1 .1 .0 .ptr .1) (a .1 .1 .1 .1 .1 .1 .1 .1 .1 .0 .name) (a .1 .1 .1 .1 .1 .1 .1 .1 .1 .0 .now) (are .1 .0 .1) (are .1 .1 .0 .1) (are .1 .1 .1 .0 .1) (are .1 .1 .1 .1 .0 .1) (are .1 .1 .1 .1 .1 .0 .1) (are .1 .1 .1 .1 .1 .1 .0 .1) (are .1 .1 .1 .1 .1 .1 .1 .0 .1) (are .1 .1 .1 .1 .1 .1 .1 .1 .0 .0 .1)) (walk 𝓤 H A W mem run (κs .0) (κs .1 .0) (κs .1 .1 .0) (qs .0) (qs .1 .0) (qs .1 .1 .0) (a .0 .ptr .0) (a .0 .ptr .1) (a .0 .name) (a .0 .now) (a .1 .0) (a .1 .1 .0) (a .1 .1 .1 .0) (a .1 .1 .1 .1 .0) (a .1 .1 .1 .1 .1 .0) (a .1 .1 .1 .1 .1 .1 .0) (a .1 .1 .1 .1 .1 .1 .1 .0) (a .1 .1 .1 .1 .1 .1 .1 .1 .0 .ptr .0) (a .1 .1 .1 .1 .1 .1 .1 .1 .0 .ptr .1) (a .1 .1 .1 .1 .1 .1 .1 .1 .0 .name) (a .1 .1 .1 .1 .1 .1 .1 .1 .0 .now) (a .1 .1 .1 .1 .1 .1 .1 .1 .1 .0 .ptr .0) (a .1 .1 .1 .1 .1 .1 .1 .1 .1 .0 .ptr .1) (a .1 .1 .1 .1 .1 .1 .1 .1 .1 .0 .name) (a .1 .1 .1 .1 .1 .1 .1 .1 .1 .0 .now) (are .1 .0 .1) (are .1 .1 .0 .1) (are .1 .1 .1 .0 .1) (are .1 .1 .1 .1 .0 .1) (are .1 .1 .1 .1 .1 .0 .1) (are .1 .1 .1 .1 .1 .1 .0 .1) (are .1 .1 .1 .1 .1 .1 .1 .0 .1) (are .1 .1 .1 .1 .1 .1 .1 .1 .0 .0 .1) (Ends 𝓤 H A W mem run (κs .0) (κs .1 .0) (κs .1 .1 .0) (qs .0) (qs .1 .0) (qs .1 .1 .0) (a .0 .ptr .0) (a .0 .ptr .1) (a .0 .name) (a .0 .now) (a .1 .0) (a .1 .1 .0) (a .1 .1 .1 .0) (a .1 .1 .1 .1 .0) (a .1 .1 .1 .1 .1 .0) (a .1 .1 .1 .1 .1 .1 .0) (a .1 .1 .1 .1 .1 .1 .1 .0) (a .1 .1 .1 .1 .1 .1 .1 .1 .0 .ptr .0) (a .1 .1 .1 .1 .1 .1 .1 .1 .0 .ptr .1) (a .1 .1 .1 .1 .1 .1 .1 .1 .0 .name) (a .1 .1 .1 .1 .1 .1 .1 .1 .0 .now) (a .1 .1 .1 .1 .1 .1 .1 .1 .1 .0 .ptr .0) (a .1 .1 .1 .1 .1 .1 .1 .1 .1 .0 .ptr .1) (a .1 .1 .1 .1 .1 .1 .1 .1 .1 .0 .name) (a .1 .1 .1 .1 .1 .1 .1 .1 .1 .0 .now) (are .1 .0 .1) (are .1 .1 .0 .1) (are .1 .1 .1 .0 .1) (are .1 .1 .1 .1 .0 .1) (are .1 .1 .1 .1 .1 .0 .1) (are .1 .1 .1 .1 .1 .1 .0 .1) (are .1 .1 .1 .1 .1 .1 .1 .0 .1) (are .1 .1 .1 .1 .1 .1 .1 .1 .0 .0 .1)) (exits 𝓤 H A W mem run (κs .0) (κs .1 .0) (κs .1 .1 .0) (qs .0) (qs .1 .0) (qs .1 .1 .0) (a .0 .ptr .0) (a .0 .ptr .1) (a .0 .name) (a .0 .now) (a .1 .0) (a .1 .1 .0) (a .1 .1 .1 .0) (a .1 .1 .1 .1 .0) (a .1 .1 .1 .1 .1 .0) (a .1 .1 .1 .1 .1 .1 .0) (a .1 .1 .1 .1 .1 .1 .1 .0) (a .1 .1 .1 .1 .1 .1 .1 .1 .0 .ptr .0) (a .1 .1 .1 .1 .1 .1 .1 .1 .0 .ptr .1) (a .1 .1 .1 .1 .1 .1 .1 .1 .0 .name) (a .1 .1 .1 .1 .1 .1 .1 .1 .0 .now) (a .1 .1 .1 .1 .1 .1 .1 .1 .1 .0 .ptr .0) (a .1 .1 .1 .1 .1 .1 .1 .1 .1 .0 .ptr .1) (a .1 .1 .1 .1 .1 .1 .1 .1 .1 .0 .name) (a .1 .1 .1 .1 .1 .1 .1 .1 .1 .0 .now) (are .1 .0 .1) (are .1 .1 .0 .1) (are .1 .1 .1 .0 .1) (are .1 .1 .1 .1 .0 .1) (are .1 .1 .1 .1 .1 .0 .1) (are .1 .1 .1 .1 .1 .1 .0 .1) (are .1 .1 .1 .1 .1 .1 .1 .0 .1) (are .1 .1 .1 .1 .1 .1 .1 .1 .0 .0 .1)) C Λ fm (calls-keys 𝓤 H A W mem run (κs .0) (κs .1 .0) (κs .1 .1 .0) (qs .0) (qs .1 .0) (qs .1 .1 .0) (a .0 .ptr .0) (a .0 .ptr .1) (a .0 .name) (a .0 .now) (a .1 .0) (a .1 .1 .0) (a .1 .1 .1 .0) (a .1 .1 .1 .1 .0) (a .1 .1 .1 .1 .1 .0) (a .1 .1 .1 .1 .1 .1 .0) (a .1 .1 .1 .1 .1 .1 .1 .0) (a .1 .1 .1 .1 .1 .1 .1 .1 .0 .ptr .0) (a .1 .1 .1 .1 .1 .1 .1 .1 .0 .ptr .1) (a .1 .1 .1 .1 .1 .1 .1 .1 .0 .name) (a .1 .1 .1 .1 .1 .1 .1 .1 .0 .now) (a .1 .1 .1 .1 .1 .1 .1 .1 .1 .0 .ptr .0) (a .1 .1 .1 .1 .1 .1 .1 .1 .1 .0 .ptr .1) (a .1 .1 .1 .1 .1 .1 .1 .1 .1 .0 .name) (a .1 .1 .1 .1 .1 .1 .1 .1 .1 .0 .now) (are .1 .0 .1) (are .1 .1 .0 .1) (are .1 .1 .1 .0 .1) (are .1 .1 .1 .1 .0 .1) (are .1 .1 .1 .1 .1 .0 .1) (are .1 .1 .1 .1 .1 .1 .0 .1) (are .1 .1 .1 .1 .1 .1 .1 .0 .1) (are .1 .1 .1 .1 .1 .1 .1 .1 .0 .0 .1) C fm known-keys known-core) (calls-core 𝓤 H A W mem run (κs .0) (κs .1 .0) (κs .1 .1 .0) (qs .0) (qs .1 .0) (qs .1 .1 .0) (a .0 .ptr .0) (a .0 .ptr .1) (a .0 .name) (a .0 .now) (a .1 .0) (a .1 .1 .0) (a .1 .1 .1 .0) (a .1 .1 .1 .1 .0) (a .1 .1 .1 .1 .1 .0) (a .1 .1 .1 .1 .1 .1 .0) (a .1 .1 .1 .1 .1 .1 .1 .0) (a .1 .1 .1 .1 .1 .1 .1 .1 .0 .ptr .0) (a .1 .1 .1 .1 .1 .1 .1 .1 .0 .ptr .1) (a .1 .1 .1 .1 .1 .1 .1 .1 .0 .name) (a .1 .1 .1 .1 .1 .1 .1 .1 .0 .now) (a .1 .1 .1 .1 .1 .1 .1 .1 .1 .0 .ptr .0) (a .1 .1 .1 .1 .1 .1 .1 .1 .1 .0 .ptr .1) (a .1 .1 .1 .1 .1 .1 .1 .1 .1 .0 .name) (a .1 .1 .1 .1 .1 .1 .1 .1 .1 .0 .now) (are .1 .0 .1) (are .1 .1 .0 .1) (are .1 .1 .1 .0 .1) (are .1 .1 .1 .1 .0 .1) (are .1 .1 .1 .1 .1 .0 .1) (are .1 .1 .1 .1 .1 .1 .0 .1) (are .1 .1 .1 .1 .1 .1 .1 .0 .1) (are .1 .1 .1 .1 .1 .1 .1 .1 .0 .0 .1) C fm known-keys known-core) (symOf St′.mir) (tysOf St′.mir) (tyNamed (St-name, [])) (Ky′.mir) (key-typed 𝓤 H A W))))
 
-meets : {M : Type 1} (𝓤 : URA M) (H : Heap 𝓤) (A : Atoms 𝓤) → Given 𝓤 H A → (mem : Memory → SProp 𝓤) (run : Routine → Fun 𝓤) (𝓣 : Tables 𝓤 H) → Triple 𝓤 (𝓣 .C #keys) (Keys 𝓤 H A mem run) → Triple 𝓤 (𝓣 .C #core) (Core 𝓤 H A mem run)
+meets : {M : Type 1} (𝓤 : URA M) (H : Heap 𝓤) (A : Atoms 𝓤) → Given 𝓤 H A → (mem : Memory → SProp 𝓤) (run : Routine → Fun 𝓤) (𝓣 : Tables 𝓤 H) → Triple 𝓤 (𝓣 .C keys-def.name) (Keys 𝓤 H A mem run) → Triple 𝓤 (𝓣 .C core-def.name) (Core 𝓤 H A mem run)
     → Meets 𝓤 H A f.signature (WpFn 𝓤 H (𝓣 .C) (𝓣 .Λ) code.function) (f.spec 𝓤 H A mem run)
 meets 𝓤 H A W mem run 𝓣 known-keys known-core =
     walk-meets 𝓤 H A f.ended stayed W (goes-ref 𝓤 H A W 3 0 tt (plain (λ _. St.the-row)), (goes-none 𝓤 H A W 3 (λ _. u8) yes (λ κs x f. refl), (goes-none 𝓤 H A W 3 (λ _. u8) yes (λ κs x f. refl), (goes-none 𝓤 H A W 3 (λ _. u8) yes (λ κs x f. refl), (goes-none 𝓤 H A W 3 (λ _. u8) yes (λ κs x f. refl), (goes-none 𝓤 H A W 3 (λ _. u8) yes (λ κs x f. refl), (goes-none 𝓤 H A W 3 (λ _. u8) yes (λ κs x f. refl), (goes-none 𝓤 H A W 3 (λ _. u8) yes (λ κs x f. refl), (goes-slice 𝓤 H A W 3 1 tt (plain (λ _. f32)), (goes-ref 𝓤 H A W 3 2 tt (plain (λ _. u32)), tt)))))))))) (f.clauses 𝓤 H A mem run)
@@ -422,7 +421,7 @@ pub ff-state-refresh-spec : {M : Type 1} → stated.statement M
 unfolding code.routine tablesOf
 ff-state-refresh-spec 𝓤 H 𝓜 𝓖 𝓡 =
     entered 𝓤 H (tripleOf 𝓤 H (𝓖 .A) f.signature (f.spec 𝓤 H (𝓖 .A) (𝓜 .mem) (𝓡 .run)))
-    (tables 𝓤 H 𝓜 𝓡 code.env .C) (tables 𝓤 H 𝓜 𝓡 code.env .Λ) #f code.function (code.unfolded 𝓤 H 𝓜 𝓡)
+    (tables 𝓤 H 𝓜 𝓡 code.env .C) (tables 𝓤 H 𝓜 𝓡 code.env .Λ) f-key.name code.function (code.unfolded 𝓤 H 𝓜 𝓡)
     (meets 𝓤 H (𝓖 .A) (givenOf 𝓤 H 𝓜 𝓖) (𝓜 .mem) (𝓡 .run) (tablesOf 𝓤 H 𝓜 (tables 𝓤 H 𝓜 𝓡 code.env))
-    (cited 𝓤 H (Keys 𝓤 H (𝓖 .A) (𝓜 .mem) (𝓡 .run)) 𝓜 𝓡 code.env #keys keys-def.routine code.calls-pack-calls·key-of (keys-thm.met 𝓤 H 𝓜 𝓖 𝓡))
-    (cited 𝓤 H (Core 𝓤 H (𝓖 .A) (𝓜 .mem) (𝓡 .run)) 𝓜 𝓡 code.env #core core-def.routine code.calls-lent-refresh·mirror·refresh (core-thm.met 𝓤 H 𝓜 𝓖 𝓡)))
+    (cited 𝓤 H (Keys 𝓤 H (𝓖 .A) (𝓜 .mem) (𝓡 .run)) 𝓜 𝓡 code.env keys-def.name keys-def.routine code.calls-pack-calls·key-of (keys-thm.met 𝓤 H 𝓜 𝓖 𝓡))
+    (cited 𝓤 H (Core 𝓤 H (𝓖 .A) (𝓜 .mem) (𝓡 .run)) 𝓜 𝓡 code.env core-def.name core-def.routine code.calls-lent-refresh·mirror·refresh (core-thm.met 𝓤 H 𝓜 𝓖 𝓡)))

@@ -25,7 +25,8 @@ use prog.Wp.{Heap, Calls, Loops, WpFn, Tables}
 use ghost.Atoms.{Atoms}
 use contract.Monad.{Fun, fact}
 use contract.Running.{givenOf, tables, tablesOf}
-use types.Kit.{Given, atRet, ‵, raw, _⊛_, some, later, ⋆, _$_, _∵_, !, qed, by, move, keep, drop, group, use1, use2, use3, split, join, pick, rewrite, fsplit, fsplit3, fjoin, fjoin3, feqL, feqI, suffices, frame, await, updating, now as at-once, show, done}
+use types.Kit as kit
+use types.Kit.{Given, atRet, ‵, raw, _⊛_, some, later, ⋆, _$_, _∵_, !, qed, by, move, keep, drop, group, use1, use2, use3, split, join, pick, rewrite, fsplit, fsplit3, fjoin, fjoin3, feqL, feqI, suffices, frame, await, updating, show, done}
 use types.Run.{look, init, store, forget, stop, hop, fld, from, load, addr, lit, bin, and-then, no-more, of-opd, assigns, land, first, skips, branches, returns-within, exec, returns, enter, alloc1, alloc0, params1, pass1, pass0, free1, free0}
 use types.Part.{agg, whole, sub, look-in}
 use types.SemTy.{Body}
@@ -62,13 +63,11 @@ use Rattle.lent_refresh.proofs.Again as Slices
 use Rattle.lent_refresh.proofs.Cell.{Shut, Mirror, Count, shut-in, mirror-in, count-in}
 use Rattle.lent_refresh.proofs.number.refresh_number as tests
 use Rattle.lent_refresh.proofs.number.refresh_number.Symbol as tests-def
-use Rattle.lent_refresh.proofs.number.refresh_number.Symbol.{name as #tests}
 use Rattle.lent_refresh.proofs.number.refresh_number.Met as tests-thm
 use Rattle.lent_refresh.proofs.dirty.write_dirty as writes
 use Rattle.lent_refresh.proofs.dirty.write_dirty.Symbol as writes-def
-use Rattle.lent_refresh.proofs.dirty.write_dirty.Symbol.{name as #writes}
 use Rattle.lent_refresh.proofs.dirty.write_dirty.Met as writes-thm
-use Rattle.lent_refresh.proofs.mirror.refresh.Key.{name as #f}
+use Rattle.lent_refresh.proofs.mirror.refresh.Key as f-key
 use Rattle.lent_refresh.proofs.mirror.refresh as f
 use Rattle.lent_refresh.proofs.mirror.refresh.Statement as stated
 use Rattle.lent_refresh.proofs.mirror.refresh.Code as code
@@ -84,7 +83,7 @@ codeOf σ nm tk =
       outlives = [];
       params = 4;
       locals = local (tyInt w32) valueLocal ∷ local (tyRef (named 0) mut nm) valueLocal ∷ local tk valueLocal ∷ local (tyStruct (38 ∷ 91 ∷ 93 ∷ []) (tcons (tyRef (named 1) mut (tyFloat binary32)) (tcons (tyInt w64) tnil))) valueLocal ∷ local (tyRef (named 2) mut (tyInt w32)) valueLocal ∷ local (tyInt w32) valueLocal ∷ local (tyRef erased mut nm) valueLocal ∷ local (tyInt w64) valueLocal ∷ local tyBool valueLocal ∷ local (tyInt w32) valueLocal ∷ local (tyRef erased mut nm) valueLocal ∷ local (tyRef erased mut (tyFloat binary32)) valueLocal ∷ local (tyStruct (38 ∷ 91 ∷ 93 ∷ []) (tcons (tyRef erased mut (tyFloat binary32)) (tcons (tyInt w64) tnil))) valueLocal ∷ [];
-      body = seq (assign (place 6 ([])) (addrOf (place 1 (deref σ ∷ [])))) (seq (assign (place 7 ([])) (rvOpd (copy (place 3 (field 1 ∷ []))))) (seq (call #tests (copy (place 6 ([])) ∷ copy (place 2 ([])) ∷ copy (place 7 ([])) ∷ []) (place 5 ([]))) (seq (assign (place 8 ([])) (op2 eq (copy (place 5 ([]))) (int w32 0))) (seq (cond (copy (place 8 ([]))) (seq (assign (place 10 ([])) (addrOf (place 1 (deref σ ∷ [])))) (seq (assign (place 11 ([])) (addrOf (place 3 (field 0 ∷ deref (tyFloat binary32) ∷ [])))) (seq (assign (place 12 ([])) (aggregate (copy (place 11 ([])) ∷ copy (place 3 (field 1 ∷ [])) ∷ []))) (seq (call #writes (copy (place 10 ([])) ∷ copy (place 2 ([])) ∷ copy (place 12 ([])) ∷ []) (place 9 ([]))) (seq (assign (place 4 (deref (tyInt w32) ∷ [])) (rvOpd (copy (place 9 ([]))))) (seq (assign (place 0 ([])) (rvOpd (int w32 0))) return)))))) skip) (seq (assign (place 0 ([])) (rvOpd (copy (place 5 ([]))))) return)))));
+      body = seq (assign (place 6 ([])) (addrOf (place 1 (deref σ ∷ [])))) (seq (assign (place 7 ([])) (rvOpd (copy (place 3 (field 1 ∷ []))))) (seq (call tests-def.name (copy (place 6 ([])) ∷ copy (place 2 ([])) ∷ copy (place 7 ([])) ∷ []) (place 5 ([]))) (seq (assign (place 8 ([])) (op2 eq (copy (place 5 ([]))) (int w32 0))) (seq (cond (copy (place 8 ([]))) (seq (assign (place 10 ([])) (addrOf (place 1 (deref σ ∷ [])))) (seq (assign (place 11 ([])) (addrOf (place 3 (field 0 ∷ deref (tyFloat binary32) ∷ [])))) (seq (assign (place 12 ([])) (aggregate (copy (place 11 ([])) ∷ copy (place 3 (field 1 ∷ [])) ∷ []))) (seq (call writes-def.name (copy (place 10 ([])) ∷ copy (place 2 ([])) ∷ copy (place 12 ([])) ∷ []) (place 9 ([]))) (seq (assign (place 4 (deref (tyInt w32) ∷ [])) (rvOpd (copy (place 9 ([]))))) (seq (assign (place 0 ([])) (rvOpd (int w32 0))) return)))))) skip) (seq (assign (place 0 ([])) (rvOpd (copy (place 5 ([]))))) return)))));
     }
 
 abbrev Tests : {M : Type 1} (𝓤 : URA M) (H : Heap 𝓤) (A : Atoms 𝓤) (mem : Memory → SProp 𝓤) (run : Routine → Fun 𝓤) → Contract 𝓤
@@ -225,7 +224,7 @@ module _ {M : Type 1} (𝓤 : URA M) (H : Heap 𝓤) (A : Atoms 𝓤) (W : Given
       use3 W (later (‵ (MutRef (named 0) κ St.the-row .own (at-ref b o γ (ws .0)) (vptr b o ∷ [])) ⊛ ‵ (flft κ q))) (comes-back 𝓤 H A W St.the-row (named 0) κ (ν ∷ []) q γ b o δ (h) (ws .0)) $ await ! tt $ split ! $
       rewrite ! 0 (λ (w : FfState). ‵ (MutRef (named 0) κ St.the-row .own (at-ref b o γ w) (vptr b o ∷ []))) (e .1) refl $ fsplit3 ! $ drop ! $
       group ! 3 $
-      at-once ! $ show ! (λ (p : ℕ). sep 𝓤 (⋆ 𝓤 H A (raw (Shut 𝓤 H A κ q b o γ (h)) ∷ [])) (fact 𝓤 (((v ≡ vint w32 (p)) × ((p) < 2 ^ 32)) × (p ≡ refreshNumber (refreshAnswer h k (length ys)))))) (r) $ says ! (((ap only (uint-tells w32 r _ is), is .1), e .0)) $
+      kit.now ! $ show ! (λ (p : ℕ). sep 𝓤 (⋆ 𝓤 H A (raw (Shut 𝓤 H A κ q b o γ (h)) ∷ [])) (fact 𝓤 (((v ≡ vint w32 (p)) × ((p) < 2 ^ 32)) × (p ≡ refreshNumber (refreshAnswer h k (length ys)))))) (r) $ says ! (((ap only (uint-tells w32 r _ is), is .1), e .0)) $
       keep ! (0 ∷ []) $
       done !))))
 
@@ -292,12 +291,12 @@ module _ {M : Type 1} (𝓤 : URA M) (H : Heap 𝓤) (A : Atoms 𝓤) (W : Given
       move ! (0 ∷ 3 ∷ 2 ∷ []) $
       use3 W (later (‵ (MutSlice (named 1) κ′ f32 .own (at-ref b′ o′ γ′ (ws .1 .1 .0)) (sliceVal (b′, o′) (length l) ∷ [])) ⊛ ‵ (flft κ′ q′))) (Slices.comes-back f32 κ′ (ν′ ∷ []) q′ γ′ b′ o′ 𝓤 H A W (named 1) (named 1) l δ′ (ws .1 .1 .0) room same) $ await ! tt $ split ! $
       group ! 2 $
-      at-once ! $ show ! (λ (p : ℕ × List Float). sep 𝓤 (⋆ 𝓤 H A (raw (Shut 𝓤 H A κ q b o γ (takeFfVsDirty h .state)) ∷ raw (Mirror 𝓤 H A κ′ q′ b′ o′ γ′ (length l) (p .1)) ∷ [])) (fact 𝓤 (((v ≡ vint w32 (p .0)) × ((p .0) < 2 ^ 32)) × (((p .1) ≡ written sections (takeFfVsDirty h .bits) h k (l)) × ((length (p .1) ≡ length l) × (p .0 ≡ takeFfVsDirty h .bits)))))) ((r, ws .1 .1 .0)) $ says ! (((ap only (uint-tells w32 r _ is), is .1), (e .2, (same, e .0)))) $
+      kit.now ! $ show ! (λ (p : ℕ × List Float). sep 𝓤 (⋆ 𝓤 H A (raw (Shut 𝓤 H A κ q b o γ (takeFfVsDirty h .state)) ∷ raw (Mirror 𝓤 H A κ′ q′ b′ o′ γ′ (length l) (p .1)) ∷ [])) (fact 𝓤 (((v ≡ vint w32 (p .0)) × ((p .0) < 2 ^ 32)) × (((p .1) ≡ written sections (takeFfVsDirty h .bits) h k (l)) × ((length (p .1) ≡ length l) × (p .0 ≡ takeFfVsDirty h .bits)))))) ((r, ws .1 .1 .0)) $ says ! (((ap only (uint-tells w32 r _ is), is .1), (e .2, (same, e .0)))) $
       keep ! (1 ∷ 0 ∷ []) $
       done !)))))
 
-  module _ (C : Calls 𝓤 H) (fm : FmC 𝓤 H (W .laws) C) (known-tests : Triple 𝓤 (C #tests) (Tests 𝓤 H A at-mem run)) (known-writes : Triple 𝓤 (C #writes) (Writes 𝓤 H A at-mem run)) where
-    calls-tests : ent 𝓤 (⋆ 𝓤 H A (raw (Shut 𝓤 H A κ q b o γ (h)) ∷ [])) (H .⇛ (C #tests (vptr b o ∷ keyVal k ∷ vint w64 (length ys) ∷ []) (After-tests)))
+  module _ (C : Calls 𝓤 H) (fm : FmC 𝓤 H (W .laws) C) (known-tests : Triple 𝓤 (C tests-def.name) (Tests 𝓤 H A at-mem run)) (known-writes : Triple 𝓤 (C writes-def.name) (Writes 𝓤 H A at-mem run)) where
+    calls-tests : ent 𝓤 (⋆ 𝓤 H A (raw (Shut 𝓤 H A κ q b o γ (h)) ∷ [])) (H .⇛ (C tests-def.name (vptr b o ∷ keyVal k ∷ vint w64 (length ys) ∷ []) (After-tests)))
     unfolding Shut
     calls-tests =
         qed W ((‵ (fobs γ (St.the-row .coded .code (h))) ⊛ ‵ (fbor κ (Body (mem St.the-row) b o γ)) ⊛ ‵ (flft κ q)) ∷ []) ∵ updating ! $
@@ -311,11 +310,11 @@ module _ {M : Type 1} (𝓤 : URA M) (H : Heap 𝓤) (A : Atoms 𝓤) (W : Given
         use2 W (later (some (λ (δ : GName). ‵ (MutRef (named 0) (ν ∷ []) St.the-row .own (at-ref b o δ (h)) (vptr b o ∷ [])) ⊛ ‵ (LentAgain St.the-row κ (ν ∷ []) q γ b o δ (h))))) (lends-again 𝓤 H A W St.the-row (named 0) κ (ν ∷ []) q γ b o (named 0) (h)) $ await ! tt $ pick ! (λ δ. split ! $
         move ! (2 ∷ 0 ∷ []) $
         group ! 2 $ use1 W (raw (Tests 𝓤 H A at-mem run .pre (to-tests ν δ))) (goes-tests ν δ) $
-        use1 W (raw (C #tests (vptr b o ∷ keyVal k ∷ vint w64 (length ys) ∷ []) (Tests 𝓤 H A at-mem run .post (to-tests ν δ)))) (known-tests (to-tests ν δ)) $
+        use1 W (raw (C tests-def.name (vptr b o ∷ keyVal k ∷ vint w64 (length ys) ∷ []) (Tests 𝓤 H A at-mem run .post (to-tests ν δ)))) (known-tests (to-tests ν δ)) $
         keep ! (0 ∷ 1 ∷ []) $
-        at-once ! $ by ! (fm #tests (vptr b o ∷ keyVal k ∷ vint w64 (length ys) ∷ []) (Tests 𝓤 H A at-mem run .post (to-tests ν δ)) (After-tests) (⋆ 𝓤 H A (‵ (LentAgain St.the-row κ (ν ∷ []) q γ b o δ (h)) ∷ [])) (back-tests ν δ))))
+        kit.now ! $ by ! (fm tests-def.name (vptr b o ∷ keyVal k ∷ vint w64 (length ys) ∷ []) (Tests 𝓤 H A at-mem run .post (to-tests ν δ)) (After-tests) (⋆ 𝓤 H A (‵ (LentAgain St.the-row κ (ν ∷ []) q γ b o δ (h)) ∷ [])) (back-tests ν δ))))
 
-    calls-writes-at : (l : List Float) → Room f32 (length l) → length l ≡ 4460 → ent 𝓤 (⋆ 𝓤 H A (raw (Shut 𝓤 H A κ q b o γ (h)) ∷ raw (Mirror 𝓤 H A κ′ q′ b′ o′ γ′ (length l) (l)) ∷ [])) (H .⇛ (C #writes (vptr b o ∷ keyVal k ∷ sliceVal (b′, o′) (length l) ∷ []) (After-writes (length l) (l))))
+    calls-writes-at : (l : List Float) → Room f32 (length l) → length l ≡ 4460 → ent 𝓤 (⋆ 𝓤 H A (raw (Shut 𝓤 H A κ q b o γ (h)) ∷ raw (Mirror 𝓤 H A κ′ q′ b′ o′ γ′ (length l) (l)) ∷ [])) (H .⇛ (C writes-def.name (vptr b o ∷ keyVal k ∷ sliceVal (b′, o′) (length l) ∷ []) (After-writes (length l) (l))))
     unfolding Shut Mirror
     calls-writes-at l room long =
         qed W ((‵ (fobs γ (St.the-row .coded .code (h))) ⊛ ‵ (fbor κ (Body (mem St.the-row) b o γ)) ⊛ ‵ (flft κ q)) ∷ (‵ (MutSlice (named 1) κ′ f32 .own (at-ref b′ o′ γ′ (l)) (sliceVal (b′, o′) (length l) ∷ [])) ⊛ ‵ (flft κ′ q′)) ∷ []) ∵ updating ! $
@@ -334,14 +333,14 @@ module _ {M : Type 1} (𝓤 : URA M) (H : Heap 𝓤) (A : Atoms 𝓤) (W : Given
         use2 W (later (some (λ (δ′ : GName). ‵ (MutSlice (named 1) (ν′ ∷ []) f32 .own (at-ref b′ o′ δ′ l) (sliceVal (b′, o′) (length l) ∷ [])) ⊛ ‵ (Slices.LentAgain f32 κ′ (ν′ ∷ []) q′ γ′ b′ o′ δ′ l)))) (Slices.lends-again f32 κ′ (ν′ ∷ []) q′ γ′ b′ o′ 𝓤 H A W (named 1) (named 1) l) $ await ! tt $ pick ! (λ δ′. split ! $
         move ! (5 ∷ 2 ∷ 3 ∷ 0 ∷ []) $
         group ! 4 $ use1 W (raw (Writes 𝓤 H A at-mem run .pre (to-writes l ν δ ν′ δ′))) (goes-writes l ν δ ν′ δ′ long) $
-        use1 W (raw (C #writes (vptr b o ∷ keyVal k ∷ sliceVal (b′, o′) (length l) ∷ []) (Writes 𝓤 H A at-mem run .post (to-writes l ν δ ν′ δ′)))) (known-writes (to-writes l ν δ ν′ δ′)) $
+        use1 W (raw (C writes-def.name (vptr b o ∷ keyVal k ∷ sliceVal (b′, o′) (length l) ∷ []) (Writes 𝓤 H A at-mem run .post (to-writes l ν δ ν′ δ′)))) (known-writes (to-writes l ν δ ν′ δ′)) $
         keep ! (0 ∷ 2 ∷ 1 ∷ []) $
-        at-once ! $ by ! (fm #writes (vptr b o ∷ keyVal k ∷ sliceVal (b′, o′) (length l) ∷ []) (Writes 𝓤 H A at-mem run .post (to-writes l ν δ ν′ δ′)) (After-writes (length l) l) (⋆ 𝓤 H A (‵ (LentAgain St.the-row κ (ν ∷ []) q γ b o δ (h)) ∷ ‵ (Slices.LentAgain f32 κ′ (ν′ ∷ []) q′ γ′ b′ o′ δ′ l) ∷ [])) (back-writes l room ν δ ν′ δ′))))))
+        kit.now ! $ by ! (fm writes-def.name (vptr b o ∷ keyVal k ∷ sliceVal (b′, o′) (length l) ∷ []) (Writes 𝓤 H A at-mem run .post (to-writes l ν δ ν′ δ′)) (After-writes (length l) l) (⋆ 𝓤 H A (‵ (LentAgain St.the-row κ (ν ∷ []) q γ b o δ (h)) ∷ ‵ (Slices.LentAgain f32 κ′ (ν′ ∷ []) q′ γ′ b′ o′ δ′ l) ∷ [])) (back-writes l room ν δ ν′ δ′))))))
 
-    calls-writes : (n : ℕ) (l : List Float) → length l ≡ n → Room f32 n → length l ≡ 4460 → ent 𝓤 (⋆ 𝓤 H A (raw (Shut 𝓤 H A κ q b o γ (h)) ∷ raw (Mirror 𝓤 H A κ′ q′ b′ o′ γ′ (n) (l)) ∷ [])) (H .⇛ (C #writes (vptr b o ∷ keyVal k ∷ sliceVal (b′, o′) (n) ∷ []) (After-writes (n) (l))))
-    calls-writes n l same room long = subst (λ (m : ℕ). ent 𝓤 (⋆ 𝓤 H A (raw (Shut 𝓤 H A κ q b o γ (h)) ∷ raw (Mirror 𝓤 H A κ′ q′ b′ o′ γ′ (m) (l)) ∷ [])) (H .⇛ (C #writes (vptr b o ∷ keyVal k ∷ sliceVal (b′, o′) (m) ∷ []) (After-writes (m) (l))))) same (calls-writes-at l (subst (Room f32) (sym same) room) long)
+    calls-writes : (n : ℕ) (l : List Float) → length l ≡ n → Room f32 n → length l ≡ 4460 → ent 𝓤 (⋆ 𝓤 H A (raw (Shut 𝓤 H A κ q b o γ (h)) ∷ raw (Mirror 𝓤 H A κ′ q′ b′ o′ γ′ (n) (l)) ∷ [])) (H .⇛ (C writes-def.name (vptr b o ∷ keyVal k ∷ sliceVal (b′, o′) (n) ∷ []) (After-writes (n) (l))))
+    calls-writes n l same room long = subst (λ (m : ℕ). ent 𝓤 (⋆ 𝓤 H A (raw (Shut 𝓤 H A κ q b o γ (h)) ∷ raw (Mirror 𝓤 H A κ′ q′ b′ o′ γ′ (m) (l)) ∷ [])) (H .⇛ (C writes-def.name (vptr b o ∷ keyVal k ∷ sliceVal (b′, o′) (m) ∷ []) (After-writes (m) (l))))) same (calls-writes-at l (subst (Room f32) (sym same) room) long)
 
-  module _ (Post : Val → SProp 𝓤) (leaves : (r : ℕ) (z : FfState) (zs : List Float) (n′ : ℕ) → r < 2 ^ 32 → left r z zs n′ ≡ lentRefresh h k ys g → length zs ≡ length ys → ent 𝓤 (⋆ 𝓤 H A (raw (Shut 𝓤 H A κ q b o γ (z)) ∷ raw (Mirror 𝓤 H A κ′ q′ b′ o′ γ′ (length ys) (zs)) ∷ raw (Count 𝓤 H A κ″ q″ b″ o″ γ″ (n′)) ∷ [])) (Post (vint w32 r))) (C : Calls 𝓤 H) (Λ : Loops 𝓤 H) (fm : FmC 𝓤 H (W .laws) C) (calls-tests : ent 𝓤 (⋆ 𝓤 H A (raw (Shut 𝓤 H A κ q b o γ (h)) ∷ [])) (H .⇛ (C #tests (vptr b o ∷ keyVal k ∷ vint w64 (length ys) ∷ []) (After-tests)))) (calls-writes : (n : ℕ) (l : List Float) → length l ≡ n → Room f32 n → length l ≡ 4460 → ent 𝓤 (⋆ 𝓤 H A (raw (Shut 𝓤 H A κ q b o γ (h)) ∷ raw (Mirror 𝓤 H A κ′ q′ b′ o′ γ′ (n) (l)) ∷ [])) (H .⇛ (C #writes (vptr b o ∷ keyVal k ∷ sliceVal (b′, o′) (n) ∷ []) (After-writes (n) (l))))) (ν : Sym) (τs : Tys) (nm tk : Ty) (key-typed′ : (k : FfVsKey) → IsKey k → T (hasTy tk (keyVal k)) × WT (keyVal k)) where
+  module _ (Post : Val → SProp 𝓤) (leaves : (r : ℕ) (z : FfState) (zs : List Float) (n′ : ℕ) → r < 2 ^ 32 → left r z zs n′ ≡ lentRefresh h k ys g → length zs ≡ length ys → ent 𝓤 (⋆ 𝓤 H A (raw (Shut 𝓤 H A κ q b o γ (z)) ∷ raw (Mirror 𝓤 H A κ′ q′ b′ o′ γ′ (length ys) (zs)) ∷ raw (Count 𝓤 H A κ″ q″ b″ o″ γ″ (n′)) ∷ [])) (Post (vint w32 r))) (C : Calls 𝓤 H) (Λ : Loops 𝓤 H) (fm : FmC 𝓤 H (W .laws) C) (calls-tests : ent 𝓤 (⋆ 𝓤 H A (raw (Shut 𝓤 H A κ q b o γ (h)) ∷ [])) (H .⇛ (C tests-def.name (vptr b o ∷ keyVal k ∷ vint w64 (length ys) ∷ []) (After-tests)))) (calls-writes : (n : ℕ) (l : List Float) → length l ≡ n → Room f32 n → length l ≡ 4460 → ent 𝓤 (⋆ 𝓤 H A (raw (Shut 𝓤 H A κ q b o γ (h)) ∷ raw (Mirror 𝓤 H A κ′ q′ b′ o′ γ′ (n) (l)) ∷ [])) (H .⇛ (C writes-def.name (vptr b o ∷ keyVal k ∷ sliceVal (b′, o′) (n) ∷ []) (After-writes (n) (l))))) (ν : Sym) (τs : Tys) (nm tk : Ty) (key-typed′ : (k : FfVsKey) → IsKey k → T (hasTy tk (keyVal k)) × WT (keyVal k)) where
     walk : ent 𝓤 (⋆ 𝓤 H A (raw (Shut 𝓤 H A κ q b o γ (h)) ∷ raw (Mirror 𝓤 H A κ′ q′ b′ o′ γ′ (length ys) (ys)) ∷ raw (Count 𝓤 H A κ″ q″ b″ o″ γ″ (g)) ∷ [])) (WpFn 𝓤 H C Λ (codeOf (tyStruct ν τs) nm tk) (vptr b o ∷ keyVal k ∷ mirrorVal ∷ vptr b″ o″ ∷ []) Post)
     walk =
         qed W (raw (Shut 𝓤 H A κ q b o γ (h)) ∷ raw (Mirror 𝓤 H A κ′ q′ b′ o′ γ′ (length ys) (ys)) ∷ raw (Count 𝓤 H A κ″ q″ b″ o″ γ″ (g)) ∷ []) ∵
@@ -351,8 +350,8 @@ module _ {M : Type 1} (𝓤 : URA M) (H : Heap 𝓤) (A : Atoms 𝓤) (W : Given
         assigns ! (addr ! (from ! (hop ! (look ! 22 refl) (stop !)))) (from ! (stop !)) (init ! 12 refl (tt, tt)) $
         assigns ! (of-opd ! (load ! (from ! (fld ! refl (stop !))) (look-in ! 18 (sub ! 1 refl (whole !))))) (from ! (stop !)) (init ! 10 refl (tt, record { fits = room .0 })) $
         move ! (26 ∷ []) $
-        use1 W (later (raw (C #tests (vptr b o ∷ keyVal k ∷ vint w64 (length ys) ∷ []) (After-tests)))) (calls-tests) $ await ! tt $
-        calls-from ! fm (raw (C #tests (vptr b o ∷ keyVal k ∷ vint w64 (length ys) ∷ []) (After-tests))) (vptr b o ∷ keyVal k ∷ vint w64 (length ys) ∷ []) (After-tests) (id⊢ 𝓤 _) (and-then ! (load ! (from ! (stop !)) (look ! 13 refl)) (and-then ! (load ! (from ! (stop !)) (look ! 21 refl)) (and-then ! (load ! (from ! (stop !)) (look ! 11 refl)) (no-more !)))) (λ vr.
+        use1 W (later (raw (C tests-def.name (vptr b o ∷ keyVal k ∷ vint w64 (length ys) ∷ []) (After-tests)))) (calls-tests) $ await ! tt $
+        calls-from ! fm (raw (C tests-def.name (vptr b o ∷ keyVal k ∷ vint w64 (length ys) ∷ []) (After-tests))) (vptr b o ∷ keyVal k ∷ vint w64 (length ys) ∷ []) (After-tests) (id⊢ 𝓤 _) (and-then ! (load ! (from ! (stop !)) (look ! 13 refl)) (and-then ! (load ! (from ! (stop !)) (look ! 21 refl)) (and-then ! (load ! (from ! (stop !)) (look ! 11 refl)) (no-more !)))) (λ vr.
         use1 W (later (some (λ (r : ℕ). (raw (Shut 𝓤 H A κ q b o γ (h))) ⊛ raw (fact 𝓤 (((vr ≡ vint w32 (r)) × ((r) < 2 ^ 32)) × (r ≡ refreshNumber (refreshAnswer h k (length ys)))))))) (id⊢ 𝓤 _) $ await ! tt $ pick ! (λ r.
         split ! $ move ! (1 ∷ []) $ heard ! (((vr ≡ vint w32 (r)) × ((r) < 2 ^ 32)) × (r ≡ refreshNumber (refreshAnswer h k (length ys)))) (λ er.
         land ! (from ! (stop !)) (init ! 15 refl (subst (λ (w : Val). T (hasTy (tyInt w32) w) × WT w) (sym (er .0 .0)) (tt, record { fits = er .0 .1 }))) $
@@ -366,8 +365,8 @@ module _ {M : Type 1} (𝓤 : URA M) (H : Heap 𝓤) (A : Atoms 𝓤) (W : Given
         assigns ! (agg ! (and-then ! (load ! (from ! (stop !)) (look ! 3 refl)) (and-then ! (load ! (from ! (fld ! refl (stop !))) (look-in ! 19 (sub ! 1 refl (whole !)))) (no-more !)))) (from ! (stop !)) (init ! 1 refl (tt, (tt, (record { fits = room .0 }, tt)))) $
         move ! (0 ∷ 27 ∷ []) $
         group ! 2 $
-        use1 W (later (raw (C #writes (vptr b o ∷ keyVal k ∷ sliceVal (b′, o′) (length ys) ∷ []) (After-writes (length ys) (ys))))) (calls-writes (length ys) (ys) (refl) room (accepted-long h k (length ys) (sym (er .1) ∙ eqb→eq r 0 on))) $ await ! tt $
-        calls-from ! fm (raw (C #writes (vptr b o ∷ keyVal k ∷ sliceVal (b′, o′) (length ys) ∷ []) (After-writes (length ys) (ys)))) (vptr b o ∷ keyVal k ∷ sliceVal (b′, o′) (length ys) ∷ []) (After-writes (length ys) (ys)) (id⊢ 𝓤 _) (and-then ! (load ! (from ! (stop !)) (look ! 5 refl)) (and-then ! (load ! (from ! (stop !)) (look ! 21 refl)) (and-then ! (load ! (from ! (stop !)) (look ! 1 refl)) (no-more !)))) (λ vp.
+        use1 W (later (raw (C writes-def.name (vptr b o ∷ keyVal k ∷ sliceVal (b′, o′) (length ys) ∷ []) (After-writes (length ys) (ys))))) (calls-writes (length ys) (ys) (refl) room (accepted-long h k (length ys) (sym (er .1) ∙ eqb→eq r 0 on))) $ await ! tt $
+        calls-from ! fm (raw (C writes-def.name (vptr b o ∷ keyVal k ∷ sliceVal (b′, o′) (length ys) ∷ []) (After-writes (length ys) (ys)))) (vptr b o ∷ keyVal k ∷ sliceVal (b′, o′) (length ys) ∷ []) (After-writes (length ys) (ys)) (id⊢ 𝓤 _) (and-then ! (load ! (from ! (stop !)) (look ! 5 refl)) (and-then ! (load ! (from ! (stop !)) (look ! 21 refl)) (and-then ! (load ! (from ! (stop !)) (look ! 1 refl)) (no-more !)))) (λ vp.
         use1 W (later (some (λ (p : ℕ × List Float). (raw (Shut 𝓤 H A κ q b o γ (takeFfVsDirty h .state)) ⊛ raw (Mirror 𝓤 H A κ′ q′ b′ o′ γ′ (length ys) (p .1))) ⊛ raw (fact 𝓤 (((vp ≡ vint w32 (p .0)) × ((p .0) < 2 ^ 32)) × (((p .1) ≡ written sections (takeFfVsDirty h .bits) h k (ys)) × ((length (p .1) ≡ length ys) × (p .0 ≡ takeFfVsDirty h .bits)))))))) (id⊢ 𝓤 _) $ await ! tt $ pick ! (λ p.
         split ! $ move ! (1 ∷ []) $ heard ! (((vp ≡ vint w32 (p .0)) × ((p .0) < 2 ^ 32)) × (((p .1) ≡ written sections (takeFfVsDirty h .bits) h k (ys)) × ((length (p .1) ≡ length ys) × (p .0 ≡ takeFfVsDirty h .bits)))) (λ ep.
         split ! $
@@ -394,11 +393,11 @@ module _ {M : Type 1} (𝓤 : URA M) (H : Heap 𝓤) (A : Atoms 𝓤) (W : Given
         by ! (leaves r h ys g (er .0 .1) (refused-is h k ys g r (er .1) (fails (eqb r 0) off)) refl))))))))))))))))))
 
 module _ {M : Type 1} (𝓤 : URA M) (H : Heap 𝓤) (A : Atoms 𝓤) (W : Given 𝓤 H A) (mem : Memory → SProp 𝓤) (run : Routine → Fun 𝓤) where
-  walks : (C : Calls 𝓤 H) (Λ : Loops 𝓤 H) → FmC 𝓤 H (W .laws) C → Triple 𝓤 (C #tests) (Tests 𝓤 H A mem run) → Triple 𝓤 (C #writes) (Writes 𝓤 H A mem run) → Walks 𝓤 H A f.ended stayed (WpFn 𝓤 H C Λ code.function) (f.clauses 𝓤 H A mem run)
+  walks : (C : Calls 𝓤 H) (Λ : Loops 𝓤 H) → FmC 𝓤 H (W .laws) C → Triple 𝓤 (C tests-def.name) (Tests 𝓤 H A mem run) → Triple 𝓤 (C writes-def.name) (Writes 𝓤 H A mem run) → Walks 𝓤 H A f.ended stayed (WpFn 𝓤 H C Λ code.function) (f.clauses 𝓤 H A mem run)
   walks C Λ fm known-tests known-writes = walked 𝓤 H A f.ended stayed (f.clauses 𝓤 H A mem run) (WpFn 𝓤 H C Λ code.function) (λ κs. (ptr-vals, (LL.vals Ky.the-type Ky′.the-laws, (slice-vals, (ptr-vals, tt))))) (λ κs. (mut-tells (named 0) (κs .0) St.the-row, (LL.tells Ky.the-type Ky′.the-laws, (mut-slice-tells (named 1) (κs .1 .0) f32, (mut-tells (named 2) (κs .1 .1 .0) u32, tt)))))
       (λ κs qs bounds a g are. via 𝓤 _ (fst∗ 𝓤 _ (emp 𝓤)) (via 𝓤 _ (starts 𝓤 H A W mem run (κs .0) (κs .1 .0) (κs .1 .1 .0) (qs .0) (qs .1 .0) (qs .1 .1 .0) (a .0 .ptr .0) (a .0 .ptr .1) (a .0 .name) (a .0 .now) (a .1 .0) (a .1 .1 .0 .ptr .0) (a .1 .1 .0 .ptr .1) (a .1 .1 .0 .name) (a .1 .1 .0 .now) (a .1 .1 .1 .0 .ptr .0) (a .1 .1 .1 .0 .ptr .1) (a .1 .1 .1 .0 .name) (a .1 .1 .1 .0 .now) (are .1 .0) (are .1 .1 .0 .0 .1)) (walk 𝓤 H A W mem run (κs .0) (κs .1 .0) (κs .1 .1 .0) (qs .0) (qs .1 .0) (qs .1 .1 .0) (a .0 .ptr .0) (a .0 .ptr .1) (a .0 .name) (a .0 .now) (a .1 .0) (a .1 .1 .0 .ptr .0) (a .1 .1 .0 .ptr .1) (a .1 .1 .0 .name) (a .1 .1 .0 .now) (a .1 .1 .1 .0 .ptr .0) (a .1 .1 .1 .0 .ptr .1) (a .1 .1 .1 .0 .name) (a .1 .1 .1 .0 .now) (are .1 .0) (are .1 .1 .0 .0 .1) (Ends 𝓤 H A W mem run (κs .0) (κs .1 .0) (κs .1 .1 .0) (qs .0) (qs .1 .0) (qs .1 .1 .0) (a .0 .ptr .0) (a .0 .ptr .1) (a .0 .name) (a .0 .now) (a .1 .0) (a .1 .1 .0 .ptr .0) (a .1 .1 .0 .ptr .1) (a .1 .1 .0 .name) (a .1 .1 .0 .now) (a .1 .1 .1 .0 .ptr .0) (a .1 .1 .1 .0 .ptr .1) (a .1 .1 .1 .0 .name) (a .1 .1 .1 .0 .now) (are .1 .0) (are .1 .1 .0 .0 .1)) (exits 𝓤 H A W mem run (κs .0) (κs .1 .0) (κs .1 .1 .0) (qs .0) (qs .1 .0) (qs .1 .1 .0) (a .0 .ptr .0) (a .0 .ptr .1) (a .0 .name) (a .0 .now) (a .1 .0) (a .1 .1 .0 .ptr .0) (a .1 .1 .0 .ptr .1) (a .1 .1 .0 .name) (a .1 .1 .0 .now) (a .1 .1 .1 .0 .ptr .0) (a .1 .1 .1 .0 .ptr .1) (a .1 .1 .1 .0 .name) (a .1 .1 .1 .0 .now) (are .1 .0) (are .1 .1 .0 .0 .1)) C Λ fm (calls-tests 𝓤 H A W mem run (κs .0) (κs .1 .0) (κs .1 .1 .0) (qs .0) (qs .1 .0) (qs .1 .1 .0) (a .0 .ptr .0) (a .0 .ptr .1) (a .0 .name) (a .0 .now) (a .1 .0) (a .1 .1 .0 .ptr .0) (a .1 .1 .0 .ptr .1) (a .1 .1 .0 .name) (a .1 .1 .0 .now) (a .1 .1 .1 .0 .ptr .0) (a .1 .1 .1 .0 .ptr .1) (a .1 .1 .1 .0 .name) (a .1 .1 .1 .0 .now) (are .1 .0) (are .1 .1 .0 .0 .1) C fm known-tests known-writes) (calls-writes 𝓤 H A W mem run (κs .0) (κs .1 .0) (κs .1 .1 .0) (qs .0) (qs .1 .0) (qs .1 .1 .0) (a .0 .ptr .0) (a .0 .ptr .1) (a .0 .name) (a .0 .now) (a .1 .0) (a .1 .1 .0 .ptr .0) (a .1 .1 .0 .ptr .1) (a .1 .1 .0 .name) (a .1 .1 .0 .now) (a .1 .1 .1 .0 .ptr .0) (a .1 .1 .1 .0 .ptr .1) (a .1 .1 .1 .0 .name) (a .1 .1 .1 .0 .now) (are .1 .0) (are .1 .1 .0 .0 .1) C fm known-tests known-writes) (symOf St′.mir) (tysOf St′.mir) (tyNamed (St-name, [])) (Ky′.mir) (key-typed 𝓤 H A W))))
 
-meets : {M : Type 1} (𝓤 : URA M) (H : Heap 𝓤) (A : Atoms 𝓤) → Given 𝓤 H A → (mem : Memory → SProp 𝓤) (run : Routine → Fun 𝓤) (𝓣 : Tables 𝓤 H) → Triple 𝓤 (𝓣 .C #tests) (Tests 𝓤 H A mem run) → Triple 𝓤 (𝓣 .C #writes) (Writes 𝓤 H A mem run)
+meets : {M : Type 1} (𝓤 : URA M) (H : Heap 𝓤) (A : Atoms 𝓤) → Given 𝓤 H A → (mem : Memory → SProp 𝓤) (run : Routine → Fun 𝓤) (𝓣 : Tables 𝓤 H) → Triple 𝓤 (𝓣 .C tests-def.name) (Tests 𝓤 H A mem run) → Triple 𝓤 (𝓣 .C writes-def.name) (Writes 𝓤 H A mem run)
     → Meets 𝓤 H A f.signature (WpFn 𝓤 H (𝓣 .C) (𝓣 .Λ) code.function) (f.spec 𝓤 H A mem run)
 meets 𝓤 H A W mem run 𝓣 known-tests known-writes =
     walk-meets 𝓤 H A f.ended stayed W (goes-ref 𝓤 H A W 3 0 tt (plain (λ _. St.the-row)), (goes-none 𝓤 H A W 3 (λ _. Ky.the-row) yes (λ κs x f. refl), (goes-slice 𝓤 H A W 3 1 tt (plain (λ _. f32)), (goes-ref 𝓤 H A W 3 2 tt (plain (λ _. u32)), tt)))) (f.clauses 𝓤 H A mem run)
@@ -408,7 +407,7 @@ pub refresh-spec : {M : Type 1} → stated.statement M
 unfolding code.routine tablesOf
 refresh-spec 𝓤 H 𝓜 𝓖 𝓡 =
     entered 𝓤 H (tripleOf 𝓤 H (𝓖 .A) f.signature (f.spec 𝓤 H (𝓖 .A) (𝓜 .mem) (𝓡 .run)))
-    (tables 𝓤 H 𝓜 𝓡 code.env .C) (tables 𝓤 H 𝓜 𝓡 code.env .Λ) #f code.function (code.unfolded 𝓤 H 𝓜 𝓡)
+    (tables 𝓤 H 𝓜 𝓡 code.env .C) (tables 𝓤 H 𝓜 𝓡 code.env .Λ) f-key.name code.function (code.unfolded 𝓤 H 𝓜 𝓡)
     (meets 𝓤 H (𝓖 .A) (givenOf 𝓤 H 𝓜 𝓖) (𝓜 .mem) (𝓡 .run) (tablesOf 𝓤 H 𝓜 (tables 𝓤 H 𝓜 𝓡 code.env))
-    (cited 𝓤 H (Tests 𝓤 H (𝓖 .A) (𝓜 .mem) (𝓡 .run)) 𝓜 𝓡 code.env #tests tests-def.routine code.calls-lent-refresh·number·refresh-number (tests-thm.met 𝓤 H 𝓜 𝓖 𝓡))
-    (cited 𝓤 H (Writes 𝓤 H (𝓖 .A) (𝓜 .mem) (𝓡 .run)) 𝓜 𝓡 code.env #writes writes-def.routine code.calls-lent-refresh·dirty·write-dirty (writes-thm.met 𝓤 H 𝓜 𝓖 𝓡)))
+    (cited 𝓤 H (Tests 𝓤 H (𝓖 .A) (𝓜 .mem) (𝓡 .run)) 𝓜 𝓡 code.env tests-def.name tests-def.routine code.calls-lent-refresh·number·refresh-number (tests-thm.met 𝓤 H 𝓜 𝓖 𝓡))
+    (cited 𝓤 H (Writes 𝓤 H (𝓖 .A) (𝓜 .mem) (𝓡 .run)) 𝓜 𝓡 code.env writes-def.name writes-def.routine code.calls-lent-refresh·dirty·write-dirty (writes-thm.met 𝓤 H 𝓜 𝓖 𝓡)))

@@ -13,14 +13,15 @@ use mir.Syntax.{named, mut, w8, w16, w32, w64, Sym, Ty, Tys, tyInt, tyBool, tyAr
 use mir.Val.{Val, vint, vptr, WT, hasTy}
 use base.Logic.{SProp, ent, sep, ex, emp, via, fst∗, id⊢}
 use base.Fml.{GName, Lft, Share, ftrue, fat, flft, fobs, fbor}
-use mathlib.Core.Option.{some as known}
+use mathlib.Core.Option as option
 use prog.Memory.{Memory, fieldAt}
 use prog.Routine.{Routine}
 use prog.Wp.{Heap, Calls, Loops, WpFn, Tables}
 use ghost.Atoms.{Atoms}
 use contract.Monad.{Fun, fact}
 use contract.Running.{givenOf, tables, tablesOf}
-use types.Kit.{Given, atRet, ‵, raw, _⊛_, some, later, ⋆, _$_, _∵_, !, qed, by, move, keep, drop, group, use0, use1, use2, split, join, pick, rewrite, fsplit, fsplit3, fjoin, fjoin3, feqI, suffices, frame, await, updating, now as at-once, show, done}
+use types.Kit as kit
+use types.Kit.{Given, atRet, ‵, raw, _⊛_, some, later, ⋆, _$_, _∵_, !, qed, by, move, keep, drop, group, use0, use1, use2, split, join, pick, rewrite, fsplit, fsplit3, fjoin, fjoin3, feqI, suffices, frame, await, updating, show, done}
 use types.Run.{look, init, forget, stop, hop, fld, from, load, lit, bin, and-then, no-more, of-opd, assigns, land, first, skips, branches, returns-within, exec, returns, enter, alloc1, alloc0, params1, pass1, pass0, free1, free0}
 use types.Part.{whole, sub, look-in}
 use types.SemTy.{Body}
@@ -58,13 +59,11 @@ use Rattle.lent_state.proofs.Rest.{behind, env, at-ref, fails}
 use Rattle.lent_refresh.proofs.Cell.{Shut, Wide, shut-in, unlock, lock}
 use Rattle.refresh_parts.proofs.first_number as first-tests
 use Rattle.refresh_parts.proofs.first_number.Symbol as first-tests-def
-use Rattle.refresh_parts.proofs.first_number.Symbol.{name as #first-tests}
 use Rattle.refresh_parts.proofs.first_number.Met as first-tests-thm
 use Rattle.refresh_parts.proofs.mask_number as mask
 use Rattle.refresh_parts.proofs.mask_number.Symbol as mask-def
-use Rattle.refresh_parts.proofs.mask_number.Symbol.{name as #mask}
 use Rattle.refresh_parts.proofs.mask_number.Met as mask-thm
-use Rattle.lent_refresh.proofs.number.refresh_number.Key.{name as #f}
+use Rattle.lent_refresh.proofs.number.refresh_number.Key as f-key
 use Rattle.lent_refresh.proofs.number.refresh_number as f
 use Rattle.lent_refresh.proofs.number.refresh_number.Statement as stated
 use Rattle.lent_refresh.proofs.number.refresh_number.Code as code
@@ -80,7 +79,7 @@ codeOf σ nm te tk tl =
       outlives = [];
       params = 3;
       locals = local (tyInt w32) valueLocal ∷ local (tyRef (named 0) mut nm) valueLocal ∷ local tk valueLocal ∷ local (tyInt w64) valueLocal ∷ local (tyInt w32) valueLocal ∷ local tyBool valueLocal ∷ local tl valueLocal ∷ local (tyInt w8) valueLocal ∷ local (tyInt w8) valueLocal ∷ local te valueLocal ∷ local (tyInt w16) valueLocal ∷ [];
-      body = seq (call #first-tests (copy (place 2 ([])) ∷ copy (place 3 ([])) ∷ []) (place 4 ([]))) (seq (assign (place 5 ([])) (op2 eq (copy (place 4 ([]))) (int w32 5))) (seq (cond (copy (place 5 ([]))) (seq (assign (place 6 ([])) (rvOpd (copy (place 1 (deref σ ∷ field 6 ∷ []))))) (seq (assign (place 7 ([])) (rvOpd (copy (place 1 (deref σ ∷ field 8 ∷ []))))) (seq (assign (place 8 ([])) (rvOpd (copy (place 1 (deref σ ∷ field 7 ∷ []))))) (seq (assign (place 9 ([])) (rvOpd (copy (place 1 (deref σ ∷ field 12 ∷ []))))) (seq (assign (place 10 ([])) (rvOpd (copy (place 1 (deref σ ∷ field 13 ∷ []))))) (seq (call #mask (copy (place 2 ([])) ∷ copy (place 6 ([])) ∷ copy (place 7 ([])) ∷ copy (place 8 ([])) ∷ copy (place 9 ([])) ∷ copy (place 10 ([])) ∷ []) (place 0 ([]))) return)))))) skip) (seq (assign (place 0 ([])) (rvOpd (copy (place 4 ([]))))) return)));
+      body = seq (call first-tests-def.name (copy (place 2 ([])) ∷ copy (place 3 ([])) ∷ []) (place 4 ([]))) (seq (assign (place 5 ([])) (op2 eq (copy (place 4 ([]))) (int w32 5))) (seq (cond (copy (place 5 ([]))) (seq (assign (place 6 ([])) (rvOpd (copy (place 1 (deref σ ∷ field 6 ∷ []))))) (seq (assign (place 7 ([])) (rvOpd (copy (place 1 (deref σ ∷ field 8 ∷ []))))) (seq (assign (place 8 ([])) (rvOpd (copy (place 1 (deref σ ∷ field 7 ∷ []))))) (seq (assign (place 9 ([])) (rvOpd (copy (place 1 (deref σ ∷ field 12 ∷ []))))) (seq (assign (place 10 ([])) (rvOpd (copy (place 1 (deref σ ∷ field 13 ∷ []))))) (seq (call mask-def.name (copy (place 2 ([])) ∷ copy (place 6 ([])) ∷ copy (place 7 ([])) ∷ copy (place 8 ([])) ∷ copy (place 9 ([])) ∷ copy (place 10 ([])) ∷ []) (place 0 ([]))) return)))))) skip) (seq (assign (place 0 ([])) (rvOpd (copy (place 4 ([]))))) return)));
     }
 
 abbrev First : {M : Type 1} (𝓤 : URA M) (H : Heap 𝓤) (A : Atoms 𝓤) (mem : Memory → SProp 𝓤) (run : Routine → Fun 𝓤) → Contract 𝓤
@@ -177,7 +176,7 @@ module _ {M : Type 1} (𝓤 : URA M) (H : Heap 𝓤) (A : Atoms 𝓤) (W : Given
       move ! (1 ∷ []) $
       peeks ! u32 (Is u32) (shows 𝓤 H A u32) r (v ∷ []) (λ is. drop ! $
       drop ! $
-      at-once ! $ show ! (λ (p : ℕ). sep 𝓤 (emp 𝓤) (fact 𝓤 (((v ≡ vint w32 (p)) × ((p) < 2 ^ 32)) × (p ≡ firstNumber k n)))) (r) $ says ! (((ap only (uint-tells w32 r _ is), is .1), e)) $
+      kit.now ! $ show ! (λ (p : ℕ). sep 𝓤 (emp 𝓤) (fact 𝓤 (((v ≡ vint w32 (p)) × ((p) < 2 ^ 32)) × (p ≡ firstNumber k n)))) (r) $ says ! (((ap only (uint-tells w32 r _ is), is .1), e)) $
       keep ! [] $
       done !))))
 
@@ -221,26 +220,26 @@ module _ {M : Type 1} (𝓤 : URA M) (H : Heap 𝓤) (A : Atoms 𝓤) (W : Given
       move ! (1 ∷ []) $
       peeks ! u32 (Is u32) (shows 𝓤 H A u32) r (v ∷ []) (λ is. drop ! $
       drop ! $
-      at-once ! $ show ! (λ (p : ℕ). sep 𝓤 (emp 𝓤) (fact 𝓤 (((v ≡ vint w32 (p)) × ((p) < 2 ^ 32)) × (p ≡ maskNumber k (partLights (h .lights) (h .«light_set_mask») (h .«light_enabled») (h .«overflow_lights») (h .«overflow_count»)))))) (r) $ says ! (((ap only (uint-tells w32 r _ is), is .1), e)) $
+      kit.now ! $ show ! (λ (p : ℕ). sep 𝓤 (emp 𝓤) (fact 𝓤 (((v ≡ vint w32 (p)) × ((p) < 2 ^ 32)) × (p ≡ maskNumber k (partLights (h .lights) (h .«light_set_mask») (h .«light_enabled») (h .«overflow_lights») (h .«overflow_count»)))))) (r) $ says ! (((ap only (uint-tells w32 r _ is), is .1), e)) $
       keep ! [] $
       done !))))
 
-  module _ (C : Calls 𝓤 H) (fm : FmC 𝓤 H (W .laws) C) (known-first-tests : Triple 𝓤 (C #first-tests) (First 𝓤 H A at-mem run)) (known-mask : Triple 𝓤 (C #mask) (Mask 𝓤 H A at-mem run)) where
-    calls-first-tests : ent 𝓤 (emp 𝓤) (H .⇛ (C #first-tests (keyVal k ∷ vint w64 n ∷ []) (After-first-tests)))
+  module _ (C : Calls 𝓤 H) (fm : FmC 𝓤 H (W .laws) C) (known-first-tests : Triple 𝓤 (C first-tests-def.name) (First 𝓤 H A at-mem run)) (known-mask : Triple 𝓤 (C mask-def.name) (Mask 𝓤 H A at-mem run)) where
+    calls-first-tests : ent 𝓤 (emp 𝓤) (H .⇛ (C first-tests-def.name (keyVal k ∷ vint w64 n ∷ []) (After-first-tests)))
     calls-first-tests =
         qed W ([]) ∵ updating ! $
         use0 W (raw (First 𝓤 H A at-mem run .pre to-first-tests)) (goes-first-tests) $
-        use1 W (raw (C #first-tests (keyVal k ∷ vint w64 n ∷ []) (First 𝓤 H A at-mem run .post to-first-tests))) (known-first-tests to-first-tests) $
+        use1 W (raw (C first-tests-def.name (keyVal k ∷ vint w64 n ∷ []) (First 𝓤 H A at-mem run .post to-first-tests))) (known-first-tests to-first-tests) $
         nothing ! $ move ! (1 ∷ 0 ∷ []) $
-        at-once ! $ by ! (fm #first-tests (keyVal k ∷ vint w64 n ∷ []) (First 𝓤 H A at-mem run .post to-first-tests) (After-first-tests) (emp 𝓤) (back-first-tests))
+        kit.now ! $ by ! (fm first-tests-def.name (keyVal k ∷ vint w64 n ∷ []) (First 𝓤 H A at-mem run .post to-first-tests) (After-first-tests) (emp 𝓤) (back-first-tests))
 
-    calls-mask : IsState h → ent 𝓤 (emp 𝓤) (H .⇛ (C #mask (keyVal k ∷ part 6 h ∷ part 8 h ∷ part 7 h ∷ part 12 h ∷ part 13 h ∷ []) (After-mask)))
+    calls-mask : IsState h → ent 𝓤 (emp 𝓤) (H .⇛ (C mask-def.name (keyVal k ∷ part 6 h ∷ part 8 h ∷ part 7 h ∷ part 12 h ∷ part 13 h ∷ []) (After-mask)))
     calls-mask was =
         qed W ([]) ∵ updating ! $
         use0 W (raw (Mask 𝓤 H A at-mem run .pre to-mask)) (goes-mask was) $
-        use1 W (raw (C #mask (keyVal k ∷ part 6 h ∷ part 8 h ∷ part 7 h ∷ part 12 h ∷ part 13 h ∷ []) (Mask 𝓤 H A at-mem run .post to-mask))) (known-mask to-mask) $
+        use1 W (raw (C mask-def.name (keyVal k ∷ part 6 h ∷ part 8 h ∷ part 7 h ∷ part 12 h ∷ part 13 h ∷ []) (Mask 𝓤 H A at-mem run .post to-mask))) (known-mask to-mask) $
         nothing ! $ move ! (1 ∷ 0 ∷ []) $
-        at-once ! $ by ! (fm #mask (keyVal k ∷ part 6 h ∷ part 8 h ∷ part 7 h ∷ part 12 h ∷ part 13 h ∷ []) (Mask 𝓤 H A at-mem run .post to-mask) (After-mask) (emp 𝓤) (back-mask))
+        kit.now ! $ by ! (fm mask-def.name (keyVal k ∷ part 6 h ∷ part 8 h ∷ part 7 h ∷ part 12 h ∷ part 13 h ∷ []) (Mask 𝓤 H A at-mem run .post to-mask) (After-mask) (emp 𝓤) (back-mask))
 
   opening : ent 𝓤 (Shut 𝓤 H A κ q b o γ (h)) (H .⇛ (sep 𝓤 (sep 𝓤 (H .at fullShare St′.mir b o (openVal h)) (Wide 𝓤 H A κ q b o γ h)) (fact 𝓤 (IsState h))))
   opening = unlock 𝓤 H A κ q b o γ W h
@@ -248,15 +247,15 @@ module _ {M : Type 1} (𝓤 : URA M) (H : Heap 𝓤) (A : Atoms 𝓤) (W : Given
   shutting : IsState h → ent 𝓤 (sep 𝓤 (H .at fullShare St′.mir b o (openVal h)) (Wide 𝓤 H A κ q b o γ h)) (H .⇛ (Shut 𝓤 H A κ q b o γ (h)))
   shutting was = lock 𝓤 H A κ q b o γ W h (h) (openVal h) (sym (by-fields h)) (was)
 
-  module _ (Post : Val → SProp 𝓤) (leaves : (r : ℕ) (z : FfState) → r < 2 ^ 32 → r ≡ refreshNumber (refreshAnswer h k n) → z ≡ h → ent 𝓤 (⋆ 𝓤 H A (raw (Shut 𝓤 H A κ q b o γ (z)) ∷ [])) (Post (vint w32 r))) (C : Calls 𝓤 H) (Λ : Loops 𝓤 H) (fm : FmC 𝓤 H (W .laws) C) (calls-first-tests : ent 𝓤 (emp 𝓤) (H .⇛ (C #first-tests (keyVal k ∷ vint w64 n ∷ []) (After-first-tests)))) (calls-mask : IsState h → ent 𝓤 (emp 𝓤) (H .⇛ (C #mask (keyVal k ∷ part 6 h ∷ part 8 h ∷ part 7 h ∷ part 12 h ∷ part 13 h ∷ []) (After-mask)))) (ν : Sym) (τs : Tys) (nm te tk tl : Ty) (key-typed′ : (k : FfVsKey) → IsKey k → T (hasTy tk (keyVal k)) × WT (keyVal k)) {d₆ : ℕ} (f₆ : fieldAt 0 τs 6 ≡ known (tl, d₆)) (lights-typed′ : IsState h → T (hasTy (tl) (part 6 h)) × WT (part 6 h)) {d₈ : ℕ} (f₈ : fieldAt 0 τs 8 ≡ known (tyInt w8, d₈)) (set-typed′ : IsState h → T (hasTy (tyInt w8) (part 8 h)) × WT (part 8 h)) {d₇ : ℕ} (f₇ : fieldAt 0 τs 7 ≡ known (tyInt w8, d₇)) (enabled-typed′ : IsState h → T (hasTy (tyInt w8) (part 7 h)) × WT (part 7 h)) {d₁₂ : ℕ} (f₁₂ : fieldAt 0 τs 12 ≡ known (te, d₁₂)) (entries-typed′ : IsState h → T (hasTy (te) (part 12 h)) × WT (part 12 h)) {d₁₃ : ℕ} (f₁₃ : fieldAt 0 τs 13 ≡ known (tyInt w16, d₁₃)) (count-typed′ : IsState h → T (hasTy (tyInt w16) (part 13 h)) × WT (part 13 h)) (open-it : ent 𝓤 (Shut 𝓤 H A κ q b o γ (h)) (H .⇛ (sep 𝓤 (sep 𝓤 (H .at fullShare (tyStruct ν τs) b o (openVal h)) (Wide 𝓤 H A κ q b o γ h)) (fact 𝓤 (IsState h))))) (shut-it : IsState h → ent 𝓤 (sep 𝓤 (H .at fullShare (tyStruct ν τs) b o (openVal h)) (Wide 𝓤 H A κ q b o γ h)) (H .⇛ (Shut 𝓤 H A κ q b o γ (h)))) where
+  module _ (Post : Val → SProp 𝓤) (leaves : (r : ℕ) (z : FfState) → r < 2 ^ 32 → r ≡ refreshNumber (refreshAnswer h k n) → z ≡ h → ent 𝓤 (⋆ 𝓤 H A (raw (Shut 𝓤 H A κ q b o γ (z)) ∷ [])) (Post (vint w32 r))) (C : Calls 𝓤 H) (Λ : Loops 𝓤 H) (fm : FmC 𝓤 H (W .laws) C) (calls-first-tests : ent 𝓤 (emp 𝓤) (H .⇛ (C first-tests-def.name (keyVal k ∷ vint w64 n ∷ []) (After-first-tests)))) (calls-mask : IsState h → ent 𝓤 (emp 𝓤) (H .⇛ (C mask-def.name (keyVal k ∷ part 6 h ∷ part 8 h ∷ part 7 h ∷ part 12 h ∷ part 13 h ∷ []) (After-mask)))) (ν : Sym) (τs : Tys) (nm te tk tl : Ty) (key-typed′ : (k : FfVsKey) → IsKey k → T (hasTy tk (keyVal k)) × WT (keyVal k)) {d₆ : ℕ} (f₆ : fieldAt 0 τs 6 ≡ option.some (tl, d₆)) (lights-typed′ : IsState h → T (hasTy (tl) (part 6 h)) × WT (part 6 h)) {d₈ : ℕ} (f₈ : fieldAt 0 τs 8 ≡ option.some (tyInt w8, d₈)) (set-typed′ : IsState h → T (hasTy (tyInt w8) (part 8 h)) × WT (part 8 h)) {d₇ : ℕ} (f₇ : fieldAt 0 τs 7 ≡ option.some (tyInt w8, d₇)) (enabled-typed′ : IsState h → T (hasTy (tyInt w8) (part 7 h)) × WT (part 7 h)) {d₁₂ : ℕ} (f₁₂ : fieldAt 0 τs 12 ≡ option.some (te, d₁₂)) (entries-typed′ : IsState h → T (hasTy (te) (part 12 h)) × WT (part 12 h)) {d₁₃ : ℕ} (f₁₃ : fieldAt 0 τs 13 ≡ option.some (tyInt w16, d₁₃)) (count-typed′ : IsState h → T (hasTy (tyInt w16) (part 13 h)) × WT (part 13 h)) (open-it : ent 𝓤 (Shut 𝓤 H A κ q b o γ (h)) (H .⇛ (sep 𝓤 (sep 𝓤 (H .at fullShare (tyStruct ν τs) b o (openVal h)) (Wide 𝓤 H A κ q b o γ h)) (fact 𝓤 (IsState h))))) (shut-it : IsState h → ent 𝓤 (sep 𝓤 (H .at fullShare (tyStruct ν τs) b o (openVal h)) (Wide 𝓤 H A κ q b o γ h)) (H .⇛ (Shut 𝓤 H A κ q b o γ (h)))) where
     walk : ent 𝓤 (⋆ 𝓤 H A (raw (Shut 𝓤 H A κ q b o γ (h)) ∷ [])) (WpFn 𝓤 H C Λ (codeOf (tyStruct ν τs) nm te tk tl) (vptr b o ∷ keyVal k ∷ vint w64 n ∷ []) Post)
     walk =
         qed W (raw (Shut 𝓤 H A κ q b o γ (h)) ∷ []) ∵
         enter ! C Λ (codeOf (tyStruct ν τs) nm te tk tl) (vptr b o ∷ keyVal k ∷ vint w64 n ∷ []) _ $
         alloc1 ! (λ l₀. alloc1 ! (λ l₁. alloc1 ! (λ l₂. alloc1 ! (λ l₃. alloc1 ! (λ l₄. alloc1 ! (λ l₅. alloc1 ! (λ l₆. alloc1 ! (λ l₇. alloc1 ! (λ l₈. alloc1 ! (λ l₉. alloc1 ! (λ l₁₀. alloc0 ! $ params1 ! $
         pass1 ! (init ! 18 refl (tt, tt)) $ pass1 ! (init ! 16 refl (key-typed′ k k-is)) $ pass1 ! (init ! 14 refl (tt, record { fits = n-fits })) $ pass0 ! $
-        use0 W (later (raw (C #first-tests (keyVal k ∷ vint w64 n ∷ []) (After-first-tests)))) (calls-first-tests) $ await ! tt $
-        calls-from ! fm (raw (C #first-tests (keyVal k ∷ vint w64 n ∷ []) (After-first-tests))) (keyVal k ∷ vint w64 n ∷ []) (After-first-tests) (id⊢ 𝓤 _) (and-then ! (load ! (from ! (stop !)) (look ! 17 refl)) (and-then ! (load ! (from ! (stop !)) (look ! 15 refl)) (no-more !))) (λ vr.
+        use0 W (later (raw (C first-tests-def.name (keyVal k ∷ vint w64 n ∷ []) (After-first-tests)))) (calls-first-tests) $ await ! tt $
+        calls-from ! fm (raw (C first-tests-def.name (keyVal k ∷ vint w64 n ∷ []) (After-first-tests))) (keyVal k ∷ vint w64 n ∷ []) (After-first-tests) (id⊢ 𝓤 _) (and-then ! (load ! (from ! (stop !)) (look ! 17 refl)) (and-then ! (load ! (from ! (stop !)) (look ! 15 refl)) (no-more !))) (λ vr.
         use1 W (later (some (λ (r : ℕ). (‵ ftrue) ⊛ raw (fact 𝓤 (((vr ≡ vint w32 (r)) × ((r) < 2 ^ 32)) × (r ≡ firstNumber k n)))))) (id⊢ 𝓤 _) $ await ! tt $ pick ! (λ r.
         split ! $ move ! (1 ∷ []) $ heard ! (((vr ≡ vint w32 (r)) × ((r) < 2 ^ 32)) × (r ≡ firstNumber k n)) (λ er.
         drop ! $
@@ -274,8 +273,8 @@ module _ {M : Type 1} (𝓤 : URA M) (H : Heap 𝓤) (A : Atoms 𝓤) (W : Given
         assigns ! (of-opd ! (load ! (from ! (hop ! (look ! 20 refl) (fld ! f₁₂ (stop !)))) (look-in ! 0 (sub ! 12 f₁₂ (whole !))))) (from ! (stop !)) (init ! 4 refl (entries-typed′ was)) $
         assigns ! (of-opd ! (load ! (from ! (hop ! (look ! 20 refl) (fld ! f₁₃ (stop !)))) (look-in ! 0 (sub ! 13 f₁₃ (whole !))))) (from ! (stop !)) (init ! 2 refl (count-typed′ was)) $
         use2 W (later (raw (Shut 𝓤 H A κ q b o γ (h)))) (shut-it was) $ await ! tt $
-        use0 W (later (raw (C #mask (keyVal k ∷ part 6 h ∷ part 8 h ∷ part 7 h ∷ part 12 h ∷ part 13 h ∷ []) (After-mask)))) (calls-mask was) $ await ! tt $
-        calls-from ! fm (raw (C #mask (keyVal k ∷ part 6 h ∷ part 8 h ∷ part 7 h ∷ part 12 h ∷ part 13 h ∷ []) (After-mask))) (keyVal k ∷ part 6 h ∷ part 8 h ∷ part 7 h ∷ part 12 h ∷ part 13 h ∷ []) (After-mask) (id⊢ 𝓤 _) (and-then ! (load ! (from ! (stop !)) (look ! 18 refl)) (and-then ! (load ! (from ! (stop !)) (look ! 10 refl)) (and-then ! (load ! (from ! (stop !)) (look ! 8 refl)) (and-then ! (load ! (from ! (stop !)) (look ! 6 refl)) (and-then ! (load ! (from ! (stop !)) (look ! 4 refl)) (and-then ! (load ! (from ! (stop !)) (look ! 2 refl)) (no-more !))))))) (λ vm.
+        use0 W (later (raw (C mask-def.name (keyVal k ∷ part 6 h ∷ part 8 h ∷ part 7 h ∷ part 12 h ∷ part 13 h ∷ []) (After-mask)))) (calls-mask was) $ await ! tt $
+        calls-from ! fm (raw (C mask-def.name (keyVal k ∷ part 6 h ∷ part 8 h ∷ part 7 h ∷ part 12 h ∷ part 13 h ∷ []) (After-mask))) (keyVal k ∷ part 6 h ∷ part 8 h ∷ part 7 h ∷ part 12 h ∷ part 13 h ∷ []) (After-mask) (id⊢ 𝓤 _) (and-then ! (load ! (from ! (stop !)) (look ! 18 refl)) (and-then ! (load ! (from ! (stop !)) (look ! 10 refl)) (and-then ! (load ! (from ! (stop !)) (look ! 8 refl)) (and-then ! (load ! (from ! (stop !)) (look ! 6 refl)) (and-then ! (load ! (from ! (stop !)) (look ! 4 refl)) (and-then ! (load ! (from ! (stop !)) (look ! 2 refl)) (no-more !))))))) (λ vm.
         use1 W (later (some (λ (m : ℕ). (‵ ftrue) ⊛ raw (fact 𝓤 (((vm ≡ vint w32 (m)) × ((m) < 2 ^ 32)) × (m ≡ maskNumber k (partLights (h .lights) (h .«light_set_mask») (h .«light_enabled») (h .«overflow_lights») (h .«overflow_count»)))))))) (id⊢ 𝓤 _) $ await ! tt $ pick ! (λ m.
         split ! $ move ! (1 ∷ []) $ heard ! (((vm ≡ vint w32 (m)) × ((m) < 2 ^ 32)) × (m ≡ maskNumber k (partLights (h .lights) (h .«light_set_mask») (h .«light_enabled») (h .«overflow_lights») (h .«overflow_count»)))) (λ em.
         drop ! $
@@ -296,11 +295,11 @@ module _ {M : Type 1} (𝓤 : URA M) (H : Heap 𝓤) (A : Atoms 𝓤) (W : Given
         by ! (leaves r h (er .0 .1) (not-looked h k n r (er .1) (fails (eqb r 5) off)) refl))))))))))))))))
 
 module _ {M : Type 1} (𝓤 : URA M) (H : Heap 𝓤) (A : Atoms 𝓤) (W : Given 𝓤 H A) (mem : Memory → SProp 𝓤) (run : Routine → Fun 𝓤) where
-  walks : (C : Calls 𝓤 H) (Λ : Loops 𝓤 H) → FmC 𝓤 H (W .laws) C → Triple 𝓤 (C #first-tests) (First 𝓤 H A mem run) → Triple 𝓤 (C #mask) (Mask 𝓤 H A mem run) → Walks 𝓤 H A f.ended stayed (WpFn 𝓤 H C Λ code.function) (f.clauses 𝓤 H A mem run)
+  walks : (C : Calls 𝓤 H) (Λ : Loops 𝓤 H) → FmC 𝓤 H (W .laws) C → Triple 𝓤 (C first-tests-def.name) (First 𝓤 H A mem run) → Triple 𝓤 (C mask-def.name) (Mask 𝓤 H A mem run) → Walks 𝓤 H A f.ended stayed (WpFn 𝓤 H C Λ code.function) (f.clauses 𝓤 H A mem run)
   walks C Λ fm known-first-tests known-mask = walked 𝓤 H A f.ended stayed (f.clauses 𝓤 H A mem run) (WpFn 𝓤 H C Λ code.function) (λ κs. (ptr-vals, (LL.vals Ky.the-type Ky′.the-laws, (uint-vals w64, tt)))) (λ κs. (mut-tells (named 0) (κs .0) St.the-row, (LL.tells Ky.the-type Ky′.the-laws, (uint-tells w64, tt))))
       (λ κs qs bounds a g are. via 𝓤 _ (fst∗ 𝓤 _ (emp 𝓤)) (via 𝓤 _ (starts 𝓤 H A W mem run (κs .0) (qs .0) (a .0 .ptr .0) (a .0 .ptr .1) (a .0 .name) (a .0 .now) (a .1 .0) (a .1 .1 .0) (are .1 .0) (are .1 .1 .0 .1)) (walk 𝓤 H A W mem run (κs .0) (qs .0) (a .0 .ptr .0) (a .0 .ptr .1) (a .0 .name) (a .0 .now) (a .1 .0) (a .1 .1 .0) (are .1 .0) (are .1 .1 .0 .1) (Ends 𝓤 H A W mem run (κs .0) (qs .0) (a .0 .ptr .0) (a .0 .ptr .1) (a .0 .name) (a .0 .now) (a .1 .0) (a .1 .1 .0) (are .1 .0) (are .1 .1 .0 .1)) (exits 𝓤 H A W mem run (κs .0) (qs .0) (a .0 .ptr .0) (a .0 .ptr .1) (a .0 .name) (a .0 .now) (a .1 .0) (a .1 .1 .0) (are .1 .0) (are .1 .1 .0 .1)) C Λ fm (calls-first-tests 𝓤 H A W mem run (κs .0) (qs .0) (a .0 .ptr .0) (a .0 .ptr .1) (a .0 .name) (a .0 .now) (a .1 .0) (a .1 .1 .0) (are .1 .0) (are .1 .1 .0 .1) C fm known-first-tests known-mask) (calls-mask 𝓤 H A W mem run (κs .0) (qs .0) (a .0 .ptr .0) (a .0 .ptr .1) (a .0 .name) (a .0 .now) (a .1 .0) (a .1 .1 .0) (are .1 .0) (are .1 .1 .0 .1) C fm known-first-tests known-mask) (symOf St′.mir) (tysOf St′.mir) (tyNamed (St-name, [])) (tyArray En′.mir 56) (Ky′.mir) (tyArray Lt′.mir 8) (key-typed 𝓤 H A W) refl (lights-typed 𝓤 H A W (a .0 .now)) refl (set-typed 𝓤 H A W (a .0 .now)) refl (enabled-typed 𝓤 H A W (a .0 .now)) refl (entries-typed 𝓤 H A W (a .0 .now)) refl (count-typed 𝓤 H A W (a .0 .now)) (opening 𝓤 H A W mem run (κs .0) (qs .0) (a .0 .ptr .0) (a .0 .ptr .1) (a .0 .name) (a .0 .now) (a .1 .0) (a .1 .1 .0) (are .1 .0) (are .1 .1 .0 .1)) (shutting 𝓤 H A W mem run (κs .0) (qs .0) (a .0 .ptr .0) (a .0 .ptr .1) (a .0 .name) (a .0 .now) (a .1 .0) (a .1 .1 .0) (are .1 .0) (are .1 .1 .0 .1)))))
 
-meets : {M : Type 1} (𝓤 : URA M) (H : Heap 𝓤) (A : Atoms 𝓤) → Given 𝓤 H A → (mem : Memory → SProp 𝓤) (run : Routine → Fun 𝓤) (𝓣 : Tables 𝓤 H) → Triple 𝓤 (𝓣 .C #first-tests) (First 𝓤 H A mem run) → Triple 𝓤 (𝓣 .C #mask) (Mask 𝓤 H A mem run)
+meets : {M : Type 1} (𝓤 : URA M) (H : Heap 𝓤) (A : Atoms 𝓤) → Given 𝓤 H A → (mem : Memory → SProp 𝓤) (run : Routine → Fun 𝓤) (𝓣 : Tables 𝓤 H) → Triple 𝓤 (𝓣 .C first-tests-def.name) (First 𝓤 H A mem run) → Triple 𝓤 (𝓣 .C mask-def.name) (Mask 𝓤 H A mem run)
     → Meets 𝓤 H A f.signature (WpFn 𝓤 H (𝓣 .C) (𝓣 .Λ) code.function) (f.spec 𝓤 H A mem run)
 meets 𝓤 H A W mem run 𝓣 known-first-tests known-mask =
     walk-meets 𝓤 H A f.ended stayed W (goes-ref 𝓤 H A W 1 0 tt (plain (λ _. St.the-row)), (goes-none 𝓤 H A W 1 (λ _. Ky.the-row) yes (λ κs x f. refl), (goes-none 𝓤 H A W 1 (λ _. usize) yes (λ κs x f. refl), tt))) (f.clauses 𝓤 H A mem run)
@@ -310,7 +309,7 @@ pub refresh-number-spec : {M : Type 1} → stated.statement M
 unfolding code.routine tablesOf
 refresh-number-spec 𝓤 H 𝓜 𝓖 𝓡 =
     entered 𝓤 H (tripleOf 𝓤 H (𝓖 .A) f.signature (f.spec 𝓤 H (𝓖 .A) (𝓜 .mem) (𝓡 .run)))
-    (tables 𝓤 H 𝓜 𝓡 code.env .C) (tables 𝓤 H 𝓜 𝓡 code.env .Λ) #f code.function (code.unfolded 𝓤 H 𝓜 𝓡)
+    (tables 𝓤 H 𝓜 𝓡 code.env .C) (tables 𝓤 H 𝓜 𝓡 code.env .Λ) f-key.name code.function (code.unfolded 𝓤 H 𝓜 𝓡)
     (meets 𝓤 H (𝓖 .A) (givenOf 𝓤 H 𝓜 𝓖) (𝓜 .mem) (𝓡 .run) (tablesOf 𝓤 H 𝓜 (tables 𝓤 H 𝓜 𝓡 code.env))
-    (cited 𝓤 H (First 𝓤 H (𝓖 .A) (𝓜 .mem) (𝓡 .run)) 𝓜 𝓡 code.env #first-tests first-tests-def.routine code.calls-refresh-parts·first-number (first-tests-thm.met 𝓤 H 𝓜 𝓖 𝓡))
-    (cited 𝓤 H (Mask 𝓤 H (𝓖 .A) (𝓜 .mem) (𝓡 .run)) 𝓜 𝓡 code.env #mask mask-def.routine code.calls-refresh-parts·mask-number (mask-thm.met 𝓤 H 𝓜 𝓖 𝓡)))
+    (cited 𝓤 H (First 𝓤 H (𝓖 .A) (𝓜 .mem) (𝓡 .run)) 𝓜 𝓡 code.env first-tests-def.name first-tests-def.routine code.calls-refresh-parts·first-number (first-tests-thm.met 𝓤 H 𝓜 𝓖 𝓡))
+    (cited 𝓤 H (Mask 𝓤 H (𝓖 .A) (𝓜 .mem) (𝓡 .run)) 𝓜 𝓡 code.env mask-def.name mask-def.routine code.calls-refresh-parts·mask-number (mask-thm.met 𝓤 H 𝓜 𝓖 𝓡)))

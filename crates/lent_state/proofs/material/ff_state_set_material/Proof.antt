@@ -48,7 +48,7 @@ use Rattle.ff_state.proofs.state.FfState as St
 use Rattle.ff_state.proofs.state.FfState.Laws as St′
 use Rattle.lent_state.proofs.Fields.{stateVal, dirty-fits, dirtier, with-dirty, with-material}
 use Rattle.lent_state.specs.Calls.{ffStateSetMaterial}
-use Rattle.lent_state.proofs.material.ff_state_set_material.Key.{name as #ff-state-set-material}
+use Rattle.lent_state.proofs.material.ff_state_set_material.Key as ff-state-set-material-key
 use Rattle.lent_state.proofs.material.ff_state_set_material as f
 use Rattle.lent_state.proofs.material.ff_state_set_material.Statement as stated
 use Rattle.lent_state.proofs.material.ff_state_set_material.Code as code
@@ -120,5 +120,5 @@ pub ff-state-set-material-spec : {M : Type 1} → stated.statement M
 unfolding code.routine tablesOf
 ff-state-set-material-spec 𝓤 H 𝓜 𝓖 𝓡 =
     entered 𝓤 H (tripleOf 𝓤 H (𝓖 .A) f.signature (f.spec 𝓤 H (𝓖 .A) (𝓜 .mem) (𝓡 .run)))
-    (tables 𝓤 H 𝓜 𝓡 code.env .C) (tables 𝓤 H 𝓜 𝓡 code.env .Λ) #ff-state-set-material code.function (code.unfolded 𝓤 H 𝓜 𝓡)
+    (tables 𝓤 H 𝓜 𝓡 code.env .C) (tables 𝓤 H 𝓜 𝓡 code.env .Λ) ff-state-set-material-key.name code.function (code.unfolded 𝓤 H 𝓜 𝓡)
     (meets 𝓤 H (𝓖 .A) (givenOf 𝓤 H 𝓜 𝓖) (𝓜 .mem) (𝓡 .run) (tablesOf 𝓤 H 𝓜 (tables 𝓤 H 𝓜 𝓡 code.env)))

@@ -51,7 +51,7 @@ use Rattle.lent_state.proofs.Fields.{stateVal, IsMatrix, matrixVals, ma
 use Rattle.lent_state.proofs.Slots.{Names, names-projection, names-view, names-texture, names-palette}
 use Rattle.lent_state.proofs.Item.{item}
 use Rattle.lent_state.proofs.Rest.{behind, env}
-use Rattle.lent_state.proofs.transforms.matrix_at.Key.{name as #matrix-at}
+use Rattle.lent_state.proofs.transforms.matrix_at.Key as matrix-at-key
 use Rattle.lent_state.proofs.transforms.matrix_at as f
 use Rattle.lent_state.proofs.transforms.matrix_at.Statement as stated
 use Rattle.lent_state.proofs.transforms.matrix_at.Code as code
@@ -187,5 +187,5 @@ pub matrix-at-spec : {M : Type 1} → stated.statement M
 unfolding code.routine tablesOf
 matrix-at-spec 𝓤 H 𝓜 𝓖 𝓡 =
     entered 𝓤 H (tripleOf 𝓤 H (𝓖 .A) f.signature (f.spec 𝓤 H (𝓖 .A) (𝓜 .mem) (𝓡 .run)))
-    (tables 𝓤 H 𝓜 𝓡 code.env .C) (tables 𝓤 H 𝓜 𝓡 code.env .Λ) #matrix-at code.function (code.unfolded 𝓤 H 𝓜 𝓡)
+    (tables 𝓤 H 𝓜 𝓡 code.env .C) (tables 𝓤 H 𝓜 𝓡 code.env .Λ) matrix-at-key.name code.function (code.unfolded 𝓤 H 𝓜 𝓡)
     (meets 𝓤 H (𝓖 .A) (givenOf 𝓤 H 𝓜 𝓖) (𝓜 .mem) (𝓡 .run) (tablesOf 𝓤 H 𝓜 (tables 𝓤 H 𝓜 𝓡 code.env)))

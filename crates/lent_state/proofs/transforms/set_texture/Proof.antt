@@ -52,7 +52,7 @@ use Rattle.ff_state.proofs.state.FfState.Laws as St′
 use Rattle.lent_state.proofs.Item.{item, vals-set}
 use Rattle.lent_state.proofs.Fields.{stateVal, matrixVal, IsMatrix, matrixVals, dirty-fits, dirtier, textures-length, texture-in, with-dirty, with-texture}
 use Rattle.lent_state.proofs.Placed.{textured, textured-is}
-use Rattle.lent_state.proofs.transforms.set_texture.Key.{name as #set-texture}
+use Rattle.lent_state.proofs.transforms.set_texture.Key as set-texture-key
 use Rattle.lent_state.proofs.transforms.set_texture as f
 use Rattle.lent_state.proofs.transforms.set_texture.Statement as stated
 use Rattle.lent_state.proofs.transforms.set_texture.Code as code
@@ -133,5 +133,5 @@ pub set-texture-spec : {M : Type 1} → stated.statement M
 unfolding code.routine tablesOf
 set-texture-spec 𝓤 H 𝓜 𝓖 𝓡 =
     entered 𝓤 H (tripleOf 𝓤 H (𝓖 .A) f.signature (f.spec 𝓤 H (𝓖 .A) (𝓜 .mem) (𝓡 .run)))
-    (tables 𝓤 H 𝓜 𝓡 code.env .C) (tables 𝓤 H 𝓜 𝓡 code.env .Λ) #set-texture code.function (code.unfolded 𝓤 H 𝓜 𝓡)
+    (tables 𝓤 H 𝓜 𝓡 code.env .C) (tables 𝓤 H 𝓜 𝓡 code.env .Λ) set-texture-key.name code.function (code.unfolded 𝓤 H 𝓜 𝓡)
     (meets 𝓤 H (𝓖 .A) (givenOf 𝓤 H 𝓜 𝓖) (𝓜 .mem) (𝓡 .run) (tablesOf 𝓤 H 𝓜 (tables 𝓤 H 𝓜 𝓡 code.env)))

@@ -53,7 +53,7 @@ use Rattle.ff_state.proofs.state.FfState.Laws as St′
 use Rattle.lent_state.proofs.Item.{item, vals-set}
 use Rattle.lent_state.proofs.Fields.{stateVal, matrixVal, IsMatrix, matrixVals, dirty-fits, dirtier, high-fits, palette-length, palette-in, with-dirty, with-palette, with-high}
 use Rattle.lent_state.proofs.Placed.{raised, kept-fits, taken-fits, raised-fits, byte-fits, byte-fits-8, bits-fit, byte-small, rest-fits, worlded, worlded-is}
-use Rattle.lent_state.proofs.transforms.set_world.Key.{name as #set-world}
+use Rattle.lent_state.proofs.transforms.set_world.Key as set-world-key
 use Rattle.lent_state.proofs.transforms.set_world as f
 use Rattle.lent_state.proofs.transforms.set_world.Statement as stated
 use Rattle.lent_state.proofs.transforms.set_world.Code as code
@@ -160,5 +160,5 @@ pub set-world-spec : {M : Type 1} → stated.statement M
 unfolding code.routine tablesOf
 set-world-spec 𝓤 H 𝓜 𝓖 𝓡 =
     entered 𝓤 H (tripleOf 𝓤 H (𝓖 .A) f.signature (f.spec 𝓤 H (𝓖 .A) (𝓜 .mem) (𝓡 .run)))
-    (tables 𝓤 H 𝓜 𝓡 code.env .C) (tables 𝓤 H 𝓜 𝓡 code.env .Λ) #set-world code.function (code.unfolded 𝓤 H 𝓜 𝓡)
+    (tables 𝓤 H 𝓜 𝓡 code.env .C) (tables 𝓤 H 𝓜 𝓡 code.env .Λ) set-world-key.name code.function (code.unfolded 𝓤 H 𝓜 𝓡)
     (meets 𝓤 H (𝓖 .A) (givenOf 𝓤 H 𝓜 𝓖) (𝓜 .mem) (𝓡 .run) (tablesOf 𝓤 H 𝓜 (tables 𝓤 H 𝓜 𝓡 code.env)))
