@@ -10,7 +10,7 @@ use image::WriteAnswer;
 use image::write_image;
 use image_reasons::image_refused;
 
-// The state over an image that was read.
+// The state over an image that was read. Only crates of this repository call it, after `image_refused`.
 pub fn put_state(image: &mut [u8], s: FfState)
     requires { ⌜ length (now image) ≡ imageLength ⌝ }
     ensures { λ _. ⌜ now (image .exit) ≡ imageBytes s ⌝ }

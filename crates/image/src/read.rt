@@ -28,7 +28,8 @@ pub struct ImageRead {
     pub state: FfState,
 }
 
-// The state that an image's bytes say, whether or not they are refused.
+// The state that an image's bytes say, whether or not they are refused. Only crates of this repository
+// call it, after `image_refused`.
 pub fn state_of(bytes: &[u8]) -> FfState
     requires { ⌜ imageLength ≤ length (now bytes) ⌝ }
     ensures { λ r. ⌜ r ≡ stateOf (now (bytes .entry)) ⌝ }
