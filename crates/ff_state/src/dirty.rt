@@ -22,16 +22,15 @@ pub struct Taken {
 }
 
 // The state with the bits of `bits` dirty too.
-pub fn with_dirty(s: FfState, bits: u8) -> FfState
+pub fn with_dirty(mut s: FfState, bits: u8) -> FfState
     ensures { λ r. ⌜ r ≡ dirtied s bits ⌝ }
 {
-    let mut t = s;
-    t.ff_vs_dirty = t.ff_vs_dirty | bits;
-    t
+    s.ff_vs_dirty = s.ff_vs_dirty | bits;
+    s
 }
 
 impl FfState {
-    pub fn mark_ff_vs_dirty(self, bits: u32) -> Marked
+    pub fn mark_ff_vs_dirty(mut self, bits: u32) -> Marked
         ensures { λ r. ⌜ r ≡ markFfVsDirty self bits ⌝ }
     {
         if bits > ALL as u32 {
@@ -40,18 +39,18 @@ impl FfState {
                 state: self,
             };
         }
+        self = with_dirty(self, bits as u8);
         Marked {
             answer: MarkAnswer::Accepted,
-            state: with_dirty(self, bits as u8),
+            state: self,
         }
     }
 
-    pub fn take_ff_vs_dirty(self) -> Taken
+    pub fn take_ff_vs_dirty(mut self) -> Taken
         ensures { λ r. ⌜ r ≡ takeFfVsDirty self ⌝ }
     {
         let bits = wide8(self.ff_vs_dirty);
-        let mut t = self;
-        t.ff_vs_dirty = 0;
-        Taken { bits, state: t }
+        self.ff_vs_dirty = 0;
+        Taken { bits, state: self }
     }
 }

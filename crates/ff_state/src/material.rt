@@ -7,12 +7,11 @@ use d3d9_types::D3DMATERIAL9;
 use sections::MATERIAL;
 
 impl FfState {
-    pub fn set_material(self, m: D3DMATERIAL9) -> FfState
+    pub fn set_material(mut self, m: D3DMATERIAL9) -> FfState
         ensures { λ r. ⌜ r ≡ setMaterial self m ⌝ }
     {
-        let mut t = self;
-        t.material = m;
-        with_dirty(t, MATERIAL)
+        self.material = m;
+        with_dirty(self, MATERIAL)
     }
 
     pub fn material(self) -> D3DMATERIAL9

@@ -36,12 +36,13 @@ impl FfState {
     pub fn new() -> Self
         ensures { λ r. ⌜ r ≡ freshState ⌝ }
     {
+        let identity = IDENTITY;
         FfState {
-            view: IDENTITY,
-            projection: IDENTITY,
-            world_palette: [IDENTITY; 256],
+            view: identity,
+            projection: identity,
+            world_palette: [identity; 256],
             world_palette_high_water: 0,
-            texture_transforms: [IDENTITY; 8],
+            texture_transforms: [identity; 8],
             material: default_material(),
             lights: [default_light(); 8],
             light_enabled: 0,

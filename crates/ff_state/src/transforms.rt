@@ -91,33 +91,28 @@ fn place_bits(place: Place) -> u8
 }
 
 // The state with m stored there. A palette index raises the highest one used.
-fn placed_at(s: FfState, place: Place, m: D3DMATRIX) -> FfState
+fn placed_at(mut s: FfState, place: Place, m: D3DMATRIX) -> FfState
     requires { ⌜ InRange place ⌝ }
     ensures { λ r. ⌜ r ≡ placed s place m ⌝ }
 {
-    let mut t = s;
     match place {
         Place::View => {
-            t.view = m;
-            t
+            s.view = m;
         }
         Place::Projection => {
-            t.projection = m;
-            t
+            s.projection = m;
         }
         Place::Texture(i) => {
-            t.texture_transforms[i] = m;
-            t
+            s.texture_transforms[i] = m;
         }
         Place::Palette(i) => {
-            t.world_palette[i] = m;
-            if t.world_palette_high_water < i as u16 {
-                t.world_palette_high_water = i as u16;
-                return t;
+            s.world_palette[i] = m;
+            if s.world_palette_high_water < i as u16 {
+                s.world_palette_high_water = i as u16;
             }
-            t
         }
     }
+    s
 }
 
 fn place_matrix(s: FfState, place: Place) -> D3DMATRIX
@@ -133,7 +128,7 @@ fn place_matrix(s: FfState, place: Place) -> D3DMATRIX
 }
 
 impl FfState {
-    pub fn set_transform(self, state: u32, m: D3DMATRIX) -> TransformChanged
+    pub fn set_transform(mut self, state: u32, m: D3DMATRIX) -> TransformChanged
         ensures { λ r. ⌜ r ≡ setTransform self state m ⌝ }
     {
         let Slot::At(place) = slot_of(state) else {
@@ -142,14 +137,16 @@ impl FfState {
                 state: self,
             };
         };
+        self = placed_at(self, place, m);
+        self = with_dirty(self, place_bits(place));
         TransformChanged {
             answer: TransformAnswer::Accepted,
-            state: with_dirty(placed_at(self, place, m), place_bits(place)),
+            state: self,
         }
     }
 
     // Stores argument x slot, by document 02 the order of Microsoft's page; the Rust has the other.
-    pub fn multiply_transform(self, state: u32, m: D3DMATRIX) -> TransformChanged
+    pub fn multiply_transform(mut self, state: u32, m: D3DMATRIX) -> TransformChanged
         ensures { λ r. ⌜ r ≡ multiplyTransform self state m ⌝ }
     {
         let Slot::At(place) = slot_of(state) else {
@@ -159,9 +156,11 @@ impl FfState {
             };
         };
         let product = mat_mul(m, place_matrix(self, place));
+        self = placed_at(self, place, product);
+        self = with_dirty(self, place_bits(place));
         TransformChanged {
             answer: TransformAnswer::Accepted,
-            state: with_dirty(placed_at(self, place, product), place_bits(place)),
+            state: self,
         }
     }
 

@@ -41,24 +41,24 @@ element-set-from-m-2 c = subst InRange (c .before .place2 .given .1) (c .before 
 cast-if1 : tie.Need-cast-if1
 cast-if1 c = omega (arith, subst InRange (c .before .place2 .given .1) (c .before .before .before .pre))
 
-cast-t : tie.Need-cast-t
-cast-t c = omega (arith, subst InRange (c .before .before .place2 .given .1) (c .before .before .before .before .pre))
+cast-s : tie.Need-cast-s
+cast-s c = omega (arith, subst InRange (c .before .before .place2 .given .1) (c .before .before .before .before .pre))
 
 returns : tie.Need-returns
 unfolding placed
-returns c = rw (c .before .before .place2 .given .1) (rw (raised _ _ (c .if1 .taken)))
+returns c = rw (c .enum-told .given .1)
 
 returns-2 : tie.Need-returns-2
 unfolding placed
-returns-2 c = rw (c .enum-told .given .1)
+returns-2 c = rw (c .enum-told2 .given .1)
 
 returns-3 : tie.Need-returns-3
 unfolding placed
-returns-3 c = rw (c .enum-told2 .given .1)
+returns-3 c = rw (c .before .place .given .1)
 
 returns-4 : tie.Need-returns-4
 unfolding placed
-returns-4 c = rw (c .before .place .given .1)
+returns-4 c = rw (c .before .before .place2 .given .1) (rw (raised _ _ (c .if1 .taken)))
 
 returns-5 : tie.Need-returns-5
 unfolding placed
@@ -77,7 +77,7 @@ placed-at-spec =
     mul-m-2
     element-set-from-m-2
     cast-if1
-    cast-t
+    cast-s
     returns
     returns-2
     returns-3
