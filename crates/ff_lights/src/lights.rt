@@ -33,7 +33,7 @@ fn replace_entry(s: FfState, at: usize, e: OverflowLight) -> LightChanged
 }
 
 // The state with one more entry, if there is room.
-fn insert_entry(s: FfState, at: usize, e: OverflowLight) -> LightChanged
+fn insert_entry(mut s: FfState, at: usize, e: OverflowLight) -> LightChanged
     requires { ⌜ at ≤ 56 ⌝ }
     ensures { λ r. ⌜ r ≡ insertEntry s at e ⌝ }
 {
@@ -41,13 +41,13 @@ fn insert_entry(s: FfState, at: usize, e: OverflowLight) -> LightChanged
     if in_use < 56 {
         if at < 56 {
             let entries = s.overflow_lights;
-            let mut t = s;
             let grown = inserted_at(entries, at, e);
-            t.overflow_lights = grown;
-            t.overflow_count = (in_use + 1) as u16;
+            s.overflow_lights = grown;
+            s.overflow_count = (in_use + 1) as u16;
+            s = with_dirty(s, LIGHTS);
             return LightChanged {
                 answer: LightAnswer::Accepted,
-                state: with_dirty(t, LIGHTS),
+                state: s,
             };
         }
     }
@@ -73,13 +73,15 @@ pub fn has_room(s: FfState, index: u32) -> bool
     found.stored
 }
 
-pub fn set_light_at(s: FfState, index: u32, light: D3DLIGHT9) -> LightChanged
+pub fn set_light_at(mut s: FfState, index: u32, light: D3DLIGHT9) -> LightChanged
     ensures { λ r. ⌜ r ≡ setLightAt s index light ⌝ }
 {
     if index < 8 {
+        s = set_slot(s, index as usize, light);
+        s = with_dirty(s, LIGHTS);
         return LightChanged {
             answer: LightAnswer::Accepted,
-            state: with_dirty(set_slot(s, index as usize, light), LIGHTS),
+            state: s,
         };
     }
     let entries = s.overflow_lights;
@@ -101,13 +103,15 @@ pub fn set_light_at(s: FfState, index: u32, light: D3DLIGHT9) -> LightChanged
     )
 }
 
-pub fn set_light_enabled_at(s: FfState, index: u32, enabled: bool) -> LightChanged
+pub fn set_light_enabled_at(mut s: FfState, index: u32, enabled: bool) -> LightChanged
     ensures { λ r. ⌜ r ≡ setLightEnabledAt s index enabled ⌝ }
 {
     if index < 8 {
+        s = enable_slot(s, index as usize, enabled);
+        s = with_dirty(s, LIGHTS);
         return LightChanged {
             answer: LightAnswer::Accepted,
-            state: with_dirty(enable_slot(s, index as usize, enabled), LIGHTS),
+            state: s,
         };
     }
     let entries = s.overflow_lights;
@@ -135,7 +139,8 @@ pub fn get_light_at(s: FfState, index: u32) -> LightRead
     if index < 8 {
         if has_bit(s.light_defined_mask, index) {
             let i = index as usize;
-            let light = s.lights[i];
+            let lights = s.lights;
+            let light = lights[i];
             return LightRead::Light(light);
         }
         return LightRead::Undefined;

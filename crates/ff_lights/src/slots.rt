@@ -44,12 +44,12 @@ fn define_slot(s: FfState, i: usize) -> FfState
 }
 
 // The state with slot i enabled or disabled.
-pub fn enable_slot(s: FfState, i: usize, enabled: bool) -> FfState
+pub fn enable_slot(mut s: FfState, i: usize, enabled: bool) -> FfState
     requires { ⌜ i < 8 ⌝ }
     ensures { λ r. ⌜ r ≡ enableSlot s i enabled ⌝ }
 {
-    let mut t = define_slot(s, i);
-    let mask = with_bit(t.light_enabled, i as u32, enabled);
-    t.light_enabled = mask;
-    t
+    s = define_slot(s, i);
+    let mask = with_bit(s.light_enabled, i as u32, enabled);
+    s.light_enabled = mask;
+    s
 }

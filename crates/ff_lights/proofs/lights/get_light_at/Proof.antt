@@ -21,20 +21,20 @@ has-bit-requires c κs = search needs
 mul-light : tie.Need-mul-light
 mul-light c = search needs
 
-element-copy-out-light : tie.Need-element-copy-out-light
-element-copy-out-light c = search needs
+array-copy-out-light : tie.Need-array-copy-out-light
+array-copy-out-light c = search needs
 
-eight : (c : tie.Start) → length (c .args .t1 .lights) ≡ 8
-eight c = sym (length-map (c .args .t1 .lights) _) ∙ c .good .0 .1 .1 .1 .1 .1 .1 .1 .1 .0 .1 .0 .1
+eight : (c : tie.Start) → length (c .args .s .lights) ≡ 8
+eight c = sym (length-map (c .args .s .lights) _) ∙ c .good .0 .1 .1 .1 .1 .1 .1 .1 .1 .0 .1 .0 .1
 
 returns : tie.Need-returns
 unfolding getLightAt
 returns c =
-    let set = c .before in
+    let set = c .before .before in
     let low = set .before .before in
     let a = low .before .args in
     rw (lt-ltb _ 8 (low .if1 .taken), ← set .before .has-bit .ensures, set .if2 .taken)
-    (ap Light (getD-default (a .t1 .lights) (a .index) _ defaultLight (omega (arith, eight (low .before), low .if1 .taken))))
+    (ap Light (getD-default (a .s .lights) (a .index) _ defaultLight (omega (arith, eight (low .before), low .if1 .taken))))
 
 returns-2 : tie.Need-returns-2
 unfolding getLightAt
@@ -46,7 +46,7 @@ used-count-requires c κs = search needs
 find-requires : tie.Need-find-requires
 find-requires c κs = used-most _ _ (c .used-count .ensures)
 
-is-found : (c : tie.After-find) → c .find .result ≡ found (c .before .before .before .before .args .t1) (c .before .before .before .before .args .index)
+is-found : (c : tie.After-find) → c .find .result ≡ found (c .before .before .before .before .args .s) (c .before .before .before .before .args .index)
 is-found c = searched _ _ (c .before .used-count .result) (c .find .result) (c .before .used-count .ensures) (c .find .ensures)
 
 mul-e : tie.Need-mul-e
@@ -73,7 +73,7 @@ get-light-at-spec =
     (tie.spec
     has-bit-requires
     mul-light
-    element-copy-out-light
+    array-copy-out-light
     returns
     returns-2
     used-count-requires

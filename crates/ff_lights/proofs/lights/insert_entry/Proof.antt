@@ -18,11 +18,11 @@ used-count-requires c κs = search needs
 inserted-at-requires : tie.Need-inserted-at-requires
 inserted-at-requires c κs = search needs
 
-add-t : tie.Need-add-t
-add-t c = search needs
+add-s : tie.Need-add-s
+add-s c = search needs
 
-cast-t : tie.Need-cast-t
-cast-t c = search needs
+cast-s : tie.Need-cast-s
+cast-s c = search needs
 
 with-dirty-requires : tie.Need-with-dirty-requires
 with-dirty-requires c κs = search needs
@@ -55,8 +55,8 @@ insert-entry-spec =
     (tie.spec
     used-count-requires
     inserted-at-requires
-    add-t
-    cast-t
+    add-s
+    cast-s
     with-dirty-requires
     returns
     returns-2

@@ -59,8 +59,8 @@ returns-2 c =
     rw (le-ltb _ 8 (at .before .before .before .if1 .left), flag-byte (a .enabled))
     (c .replace-entry .ensures ∙ entry-changed (a .s) (a .index) (at .find .result) (is-found at) (λ e. lightEntry (e .index) (boolByte (a .enabled)) (e .light)) _ _ (test .if2 .taken))
 
-cast-t19 : tie.Need-cast-t19
-cast-t19 c = search needs
+cast-t17 : tie.Need-cast-t17
+cast-t17 c = search needs
 
 default-light-requires : tie.Need-default-light-requires
 default-light-requires c κs = search needs
@@ -93,7 +93,7 @@ set-light-enabled-at-spec =
     cast-e
     replace-entry-requires
     returns-2
-    cast-t19
+    cast-t17
     default-light-requires
     insert-entry-requires
     returns-3)

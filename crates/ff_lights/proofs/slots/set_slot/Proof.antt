@@ -31,7 +31,9 @@ with-bit-requires-4 c κs = search needs
 
 returns : tie.Need-returns
 unfolding setSlot
-returns c = cc
+returns c =
+    let set = c .before .before in
+    rw (c .with-bit4 .ensures, c .before .with-bit3 .ensures, set .with-bit2 .ensures, set .before .light-type-contributes .ensures, set .before .before .with-bit .ensures)
 
 pub set-slot-spec : {M : Type 1} → statement M
 set-slot-spec =
