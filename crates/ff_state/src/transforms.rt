@@ -122,8 +122,14 @@ fn place_matrix(s: FfState, place: Place) -> D3DMATRIX
     match place {
         Place::View => s.view,
         Place::Projection => s.projection,
-        Place::Texture(i) => s.texture_transforms[i],
-        Place::Palette(i) => s.world_palette[i],
+        Place::Texture(i) => {
+            let textures = s.texture_transforms;
+            textures[i]
+        }
+        Place::Palette(i) => {
+            let palette = s.world_palette;
+            palette[i]
+        }
     }
 }
 
@@ -183,7 +189,7 @@ impl FfState {
     pub fn world_view_projection(self) -> D3DMATRIX
         ensures { λ r. ⌜ r ≡ Transforms.worldViewProjection self ⌝ }
     {
-        let world = self.world_palette[0];
-        mat_mul(mat_mul(world, self.view), self.projection)
+        let palette = self.world_palette;
+        mat_mul(mat_mul(palette[0], self.view), self.projection)
     }
 }

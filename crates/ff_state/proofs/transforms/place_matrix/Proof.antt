@@ -16,19 +16,19 @@ enum-known-place : tie.Need-enum-known-place
 enum-known-place c = search needs
 
 mul-result : tie.Need-mul-result
-mul-result c = omega (arith, subst InRange (c .before .place .given .1) (c .before .before .before .pre))
+mul-result c = omega (arith, subst InRange (c .before .before .place .given .1) (c .before .before .before .before .pre))
 
-element-copy-out-result : tie.Need-element-copy-out-result
-element-copy-out-result c = subst InRange (c .before .place .given .1) (c .before .before .before .pre)
+array-copy-out-result : tie.Need-array-copy-out-result
+array-copy-out-result c = subst InRange (c .before .before .place .given .1) (c .before .before .before .before .pre)
 
 enum-known-place-2 : tie.Need-enum-known-place-2
 enum-known-place-2 c = search needs
 
 mul-result-2 : tie.Need-mul-result-2
-mul-result-2 c = omega (arith, subst InRange (c .before .place2 .given .1) (c .before .before .before .pre))
+mul-result-2 c = omega (arith, subst InRange (c .before .before .place2 .given .1) (c .before .before .before .before .pre))
 
-element-copy-out-result-2 : tie.Need-element-copy-out-result-2
-element-copy-out-result-2 c = subst InRange (c .before .place2 .given .1) (c .before .before .before .pre)
+array-copy-out-result-2 : tie.Need-array-copy-out-result-2
+array-copy-out-result-2 c = subst InRange (c .before .before .place2 .given .1) (c .before .before .before .before .pre)
 
 returns : tie.Need-returns
 unfolding placeMatrix
@@ -40,11 +40,11 @@ returns-2 c = rw (c .before .enum-told2 .given .1)
 
 returns-3 : tie.Need-returns-3
 unfolding placeMatrix
-returns-3 c = rw (c .before .before .place .given .1)
+returns-3 c = rw (c .before .before .before .place .given .1)
 
 returns-4 : tie.Need-returns-4
 unfolding placeMatrix
-returns-4 c = rw (c .before .before .place2 .given .1)
+returns-4 c = rw (c .before .before .before .place2 .given .1)
 
 pub place-matrix-spec : {M : Type 1} → statement M
 place-matrix-spec =
@@ -54,10 +54,10 @@ place-matrix-spec =
     enum-told-2
     enum-known-place
     mul-result
-    element-copy-out-result
+    array-copy-out-result
     enum-known-place-2
     mul-result-2
-    element-copy-out-result-2
+    array-copy-out-result-2
     returns
     returns-2
     returns-3
