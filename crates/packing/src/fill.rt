@@ -21,7 +21,8 @@ pub fn fill_wv_section(s: FfState, key: FfVsKey, dst: &mut [f32]) -> PackAnswer
     if !is_length(Section::Wv, key, NO_TEXTURES, dst.len()) {
         return PackAnswer::WrongLength;
     }
-    let world = s.world_palette[0];
+    let palette = s.world_palette;
+    let world = palette[0];
     write_matrix(dst, 0, transpose(mat_mul(world, s.view)));
     PackAnswer::Packed
 }

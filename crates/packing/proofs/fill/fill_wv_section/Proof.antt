@@ -15,7 +15,7 @@ use borrow.Author.Needs.{needs}
 use Rattle.packing.proofs.fill.fill_wv_section.Statement.{statement}
 use Rattle.packing.proofs.fill.fill_wv_section.Tie as tie
 
-ok : (c : tie.Else1) → Passed Wv (c .before .before .before .args .t1) (c .before .before .before .args .key) (c .before .before .before .args .dst .now)
+ok : (c : tie.Else1) → Passed Wv (c .before .before .before .args .s) (c .before .before .before .args .key) (c .before .before .before .args .dst .now)
 ok c = passed _ _ _ _ (c .before .is-length .ensures) (c .if1 .left)
 
 is-length-requires : tie.Need-is-length-requires
@@ -24,8 +24,8 @@ is-length-requires c κs = search needs
 returns : tie.Need-returns
 returns c = failed Wv _ _ _ (c .before .is-length .ensures) (c .if1 .taken)
 
-element-copy-out-world : tie.Need-element-copy-out-world
-element-copy-out-world c = search needs
+array-copy-out-world : tie.Need-array-copy-out-world
+array-copy-out-world c = search needs
 
 mat-mul-requires : tie.Need-mat-mul-requires
 mat-mul-requires c κs = search needs
@@ -56,7 +56,7 @@ fill-wv-section-spec =
     (tie.spec
     is-length-requires
     returns
-    element-copy-out-world
+    array-copy-out-world
     mat-mul-requires
     transpose-requires
     write-matrix-requires
