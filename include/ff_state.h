@@ -227,9 +227,10 @@ uint32_t ff_fill_palette_section(const uint8_t *image, size_t image_len, FF_KEY,
 uint32_t ff_fill_tt_section(const uint8_t *image, size_t image_len, FF_KEY, uint8_t *dst, size_t dst_len);
 
 /* The same for the lights that light, six rows each, by ascending index: position as the view sees it, and the kind (3
- * directional, 2 spot, 1 point); unit direction as the view sees it (0, 0, 0 where it has no length), and falloff, 1e-6 at
- * least; diffuse rgb and specular alpha; ambient rgb and the spot's offset; attenuation 0 to 2 and range; specular rgb and
- * the spot's scale. light_active_mask is 0, for no rows, or the first byte of ff_compacted_light_masks. Refuses 9, 4, 5. */
+ * directional, 2 spot, 1 point); unit direction as the view sees it, of any finite length (0, 0, 0 where it has none), and
+ * falloff, 1e-6 at least; diffuse rgb and specular alpha; ambient rgb and the spot's offset; attenuation 0 to 2 and range;
+ * specular rgb and the spot's scale. light_active_mask is 0, for no rows, or the first byte of ff_compacted_light_masks.
+ * Refuses 9, 4, 5. */
 uint32_t ff_fill_lights_section(const uint8_t *image, size_t image_len, FF_KEY, uint8_t *dst, size_t dst_len);
 
 /* Refresh: a mirror of the shader's constants, kept up with the state */

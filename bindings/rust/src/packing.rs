@@ -101,7 +101,7 @@ impl FfImage {
 
     /// Six rows for each light that lights, by ascending index, or [`Refusal::WrongMask`]:
     /// - position in view space, and the kind: 3 directional, 2 spot, 1 point;
-    /// - unit direction in view space (zeros where it has no length), and falloff, 1e-6 at least;
+    /// - unit direction in view space, of any finite length (zeros where it has none), and falloff, 1e-6 at least;
     /// - diffuse rgb, and specular alpha;
     /// - ambient rgb, and the spot's offset;
     /// - attenuation 0 to 2, and range;

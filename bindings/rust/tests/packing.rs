@@ -116,13 +116,13 @@ fn p12_a_spot_without_a_cone() {
     assert_eq!(rows[3][3], -1_000_000.0);
 }
 
-/// Run only: the square of 1e20 overflows.
+/// The square of 1e20 overflows, so the direction is scaled first.
 #[test]
-fn a_direction_of_1e20_packs_zeros() {
-    for (z, zero) in [(1e20, 0.0f32), (-1e20, -0.0)] {
+fn a_direction_of_1e20_packs_a_unit() {
+    for (z, unit) in [(1e20, 1.0f32), (-1e20, -1.0)] {
         let rows = lights(&lit_by(&[directed(z)]));
         let [x, y, z, _] = rows[1].map(f32::to_bits);
-        assert_eq!([x, y, z], [0, 0, zero.to_bits()]);
+        assert_eq!([x, y, z], [0, 0, unit.to_bits()]);
     }
 }
 

@@ -4,21 +4,14 @@ use mathlib.Core.Path.{_≡_, refl}
 use lib.IntN.{pos}
 use lib.Ieee.{Float, nan, binary32, ofBits, toBits, ofInt, add, sub, mul, div, rem, neg, lt, isNan}
 use Rattle.d3d9_types.specs.Numbers.{zero, one}
-use Rattle.d3d9_types.specs.declared.vector.D3DVECTOR.{D3DVECTOR}
 use Rattle.float32.specs.Larger.{larger}
-use Rattle.float32.specs.Root.{sqrtOf, rootOf, nearestRoot, floorRoot, rootFrom}
 use Rattle.float32.specs.Cosine.{magnitude, turn, halfTurn, quarterTurn, folded, fraction, horner, polynomial, cosFolded, cosOf}
-use Rattle.matrix.specs.Sum.{sumFrom}
 use Rattle.light_rows.specs.Floor.{smallest, floored}
-use Rattle.light_rows.specs.Direction.{lengthOf, noDirection, unitDirection}
 use Rattle.light_rows.specs.Cone.{halfCosine, spotScale, coneOf}
 use Rattle.light_rows.specs.Light.{kindOf}
 
 abbrev p : ℕ → Float
 p n = ofInt binary32 (pos n)
-
-abbrev three : Float → Float → Float → D3DVECTOR
-three x y z = record { x = x; y = y; z = z }
 
 -- 0x358637BD is 1 / 1,000,000, rounded once
 millionth : smallest ≡ div binary32 one (p 1_000_000)
@@ -32,20 +25,6 @@ nan-loses = refl
 above-stays : floored (p 3) ≡ p 3
 unfolding floored smallest larger lt isNan ofBits ofInt
 above-stays = refl
-
--- 3, 4, 12 has the length 13
-a-unit : unitDirection (three (p 3) (p 4) (p 12)) ≡ three (div binary32 (p 3) (p 13)) (div binary32 (p 4) (p 13)) (div binary32 (p 12) (p 13))
-unfolding unitDirection lengthOf sqrtOf rootOf nearestRoot floorRoot rootFrom sumFrom add mul lt ofInt
-a-unit = refl
-
--- a length of 0, and one that is a NaN
-zero-stays : unitDirection (three zero (neg zero) zero) ≡ noDirection
-unfolding unitDirection lengthOf sqrtOf sumFrom add mul neg lt
-zero-stays = refl
-
-nan-vanishes : unitDirection (three nan one one) ≡ noDirection
-unfolding unitDirection lengthOf sqrtOf sumFrom add mul lt
-nan-vanishes = refl
 
 -- theta = phi = 0 leaves no width: the scale is 1,000,000 and the offset its negative, by their bits
 narrow : (toBits binary32 (coneOf 2 zero zero .scale) ≡ 0x49742400) × (toBits binary32 (coneOf 2 zero zero .offset) ≡ 0xC9742400)

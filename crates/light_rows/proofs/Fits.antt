@@ -4,15 +4,13 @@ use mathlib.Core.Bool.{cond}
 use mathlib.Core.List.{List}
 use lib.Dec.{eqb}
 use lib.IntN.{pos}
-use lib.Ieee.{Float, binary32, fits, lt, ofInt, neg, ofBits}
+use lib.Ieee.{Float, binary32, fits, ofInt, neg, ofBits}
 use lib.Ieee.Fits.{cond-fits, ofInt-fits, mul-fits, div-fits}
 use Rattle.d3d9_types.proofs.Fits.{zero-fits}
 use Rattle.d3d9_types.specs.Numbers.{zero, one, floatFits}
 use Rattle.d3d9_types.specs.Matrix.{rowFits}
 use Rattle.d3d9_types.specs.Light.{lightFits}
-use Rattle.d3d9_types.specs.Vector.{vectorFits}
 use Rattle.d3d9_types.specs.declared.matrix.D3DMATRIX.{D3DMATRIX}
-use Rattle.d3d9_types.specs.declared.vector.D3DVECTOR.{D3DVECTOR}
 use Rattle.d3d9_types.specs.declared.light.D3DLIGHT9.{D3DLIGHT9}
 use Rattle.float32.proofs.Laws.{larger-fits}
 use Rattle.lemmas.proofs.Branch.{branch}
@@ -20,8 +18,8 @@ use Rattle.matrix.specs.Sum.{times}
 use Rattle.matrix.specs.View.{viewTransformDir}
 use Rattle.matrix.proofs.Fits.{viewTransformPoint-fits}
 use Rattle.rows.proofs.Fits.{Each, each-rowsOf}
+use Rattle.directions.proofs.Fits.{unitDirection-fits}
 use Rattle.light_rows.specs.Floor.{smallest, floored}
-use Rattle.light_rows.specs.Direction.{lengthOf, over, noDirection, unitDirection}
 use Rattle.light_rows.specs.Cone.{halfCosine, spotScale, coneOf}
 use Rattle.light_rows.specs.Light.{kindOf, lightRows, sixRows, lightsRows}
 use Rattle.light_rows.specs.declared.cone.Cone.{Cone}
@@ -35,13 +33,6 @@ unfolding kindOf
 kind-fits kind =
     cond-fits binary32 (eqb kind 3) (ofInt binary32 (pos 3)) (cond (eqb kind 2) (ofInt binary32 (pos 2)) (ofInt binary32 (pos 1))) (ofInt-fits binary32 (pos 3))
     (cond-fits binary32 (eqb kind 2) (ofInt binary32 (pos 2)) (ofInt binary32 (pos 1)) (ofInt-fits binary32 (pos 2)) (ofInt-fits binary32 (pos 1)))
-
-unit-fits : (d : D3DVECTOR) → vectorFits (unitDirection d)
-unfolding unitDirection
-unit-fits d =
-    branch vectorFits (lt zero (lengthOf d)) (over d (lengthOf d)) noDirection
-    (λ some. record { x = div-fits binary32 (d .x) (lengthOf d); y = div-fits binary32 (d .y) (lengthOf d); z = div-fits binary32 (d .z) (lengthOf d) })
-    (λ none. record { x = zero-fits; y = zero-fits; z = zero-fits })
 
 record coneFits (c : Cone) : Type 0 where
   scale : floatFits (c .scale)
@@ -58,7 +49,7 @@ pub light-fits : (view : D3DMATRIX) {l : D3DLIGHT9} → lightFits l → Each row
 unfolding lightRows
 light-fits view {l} h =
     let p = viewTransformPoint-fits view (l .position) in
-    let d = unit-fits (viewTransformDir view (l .direction)) in
+    let d = unitDirection-fits (viewTransformDir view (l .direction)) in
     let c = cone-fits (l .«type_») (l .theta) (l .phi) in (
       record { x = p .x; y = p .y; z = p .z; w = kind-fits (l .«type_») },
       (

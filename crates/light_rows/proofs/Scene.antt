@@ -21,7 +21,7 @@ use Rattle.matrix.specs.View.{viewTransformPoint, viewTransformDir}
 use Rattle.rows.specs.Rows.{rowsOf}
 use Rattle.rows.proofs.Scene.{Bits, bits, rowBits, p, rgba, view}
 use Rattle.light_rows.specs.Floor.{smallest, floored}
-use Rattle.light_rows.specs.Direction.{lengthOf, unitDirection}
+use Rattle.directions.specs.Direction.{lengthOf, unitDirection}
 use Rattle.light_rows.specs.Cone.{half, halfCosine, spotScale, coneOf}
 use Rattle.light_rows.specs.Light.{kindOf, lightRows, lightsRows}
 

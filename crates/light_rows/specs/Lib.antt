@@ -1,4 +1,3 @@
 pub mod Floor
-pub mod Direction
 pub mod Cone
 pub mod Light

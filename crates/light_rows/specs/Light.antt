@@ -13,7 +13,7 @@ use Rattle.d3d9_types.specs.declared.light.D3DLIGHT9.{D3DLIGHT9}
 use Rattle.matrix.specs.View.{viewTransformPoint, viewTransformDir}
 use Rattle.rows.specs.Rows.{rowsOf}
 use Rattle.light_rows.specs.Floor.{floored}
-use Rattle.light_rows.specs.Direction.{unitDirection}
+use Rattle.directions.specs.Direction.{unitDirection}
 use Rattle.light_rows.specs.Cone.{coneOf}
 use Rattle.light_rows.specs.declared.cone.Cone.{Cone}
 use Rattle.light_rows.specs.declared.light.LightRows.{LightRows}

@@ -37,7 +37,7 @@ use Rattle.rows.specs.Matrices.{projectionRows, worldViewRows, paletteRows}
 use Rattle.rows.specs.Material.{materialRows}
 use Rattle.rows.proofs.Scene.{Bits, world, secondWorld, view, projection, material, projectionBits, worldViewBits, secondBits, materialBits}
 use Rattle.light_rows.specs.Floor.{smallest, floored}
-use Rattle.light_rows.specs.Direction.{lengthOf, unitDirection}
+use Rattle.directions.specs.Direction.{lengthOf, unitDirection}
 use Rattle.light_rows.specs.Cone.{halfCosine, spotScale, coneOf}
 use Rattle.light_rows.specs.Light.{kindOf, lightRows, lightsRows}
 use Rattle.light_rows.proofs.Scene.{spot, spotBits}

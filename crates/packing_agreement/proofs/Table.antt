@@ -31,7 +31,7 @@ use Rattle.ff_state.specs.Cases.{p7, p8}
 use Rattle.rows.specs.Rows.{floats, rowsOf}
 use Rattle.rows.specs.Matrices.{worldViewRows}
 use Rattle.light_rows.specs.Floor.{smallest, floored}
-use Rattle.light_rows.specs.Direction.{lengthOf, unitDirection}
+use Rattle.directions.specs.Direction.{lengthOf, unitDirection}
 use Rattle.light_rows.specs.Cone.{halfCosine, spotScale, coneOf}
 use Rattle.light_rows.specs.Light.{kindOf, lightRows, lightsRows}
 use Rattle.packing.specs.Inputs.{packedRows, maskAccepted}

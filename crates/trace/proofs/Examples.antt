@@ -24,7 +24,7 @@ use Rattle.rows.specs.Rows.{floats, rowsOf}
 use Rattle.rows.specs.Matrices.{projectionRows, worldViewRows, paletteRows}
 use Rattle.rows.specs.Material.{materialRows}
 use Rattle.light_rows.specs.Floor.{smallest, floored}
-use Rattle.light_rows.specs.Direction.{lengthOf, unitDirection}
+use Rattle.directions.specs.Direction.{lengthOf, unitDirection}
 use Rattle.light_rows.specs.Cone.{coneOf}
 use Rattle.light_rows.specs.Light.{kindOf, lightRows, lightsRows}
 use Rattle.sections.specs.Counts.{paletteMatrices}

@@ -81,6 +81,12 @@ impl Book {
             rust.set_light_at(index, light);
             rust.set_light_enabled_at(index, *enabled);
         }
-        FIVE.map(|section| (section, section.wrong_rows(&rust, key, mirror)))
+        let indices = || {
+            self.lights
+                .keys()
+                .copied()
+                .skip_while(|&index| index < SLOTS as u32)
+        };
+        FIVE.map(|section| (section, section.wrong_rows(&rust, indices(), key, mirror)))
     }
 }

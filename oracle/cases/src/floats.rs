@@ -7,6 +7,9 @@ pub const NAN: u32 = 0x7FC0_0000;
 pub const SIGN: u32 = 0x8000_0000;
 pub const INFINITY: u32 = 0x7F80_0000;
 pub const ONE: u32 = 0x3F80_0000;
+/// The least normal float, and the largest float.
+pub const NORMAL: u32 = 0x0080_0000;
+pub const LARGEST: u32 = 0x7F7F_FFFF;
 
 /// Document 01's constants of the cosine: T, then the bounds of its two tests.
 pub const TURN: u32 = 0x40C9_0FDB;
@@ -60,6 +63,22 @@ pub const SPECIAL: [u32; 40] = [
 #[must_use]
 pub const fn is_nan(bits: u32) -> bool {
     bits & !SIGN > INFINITY
+}
+
+#[must_use]
+pub const fn is_finite(bits: u32) -> bool {
+    bits & INFINITY != INFINITY
+}
+
+#[must_use]
+pub const fn is_zero(bits: u32) -> bool {
+    bits & !SIGN == 0
+}
+
+/// Finite, and 2^-126 or more in magnitude.
+#[must_use]
+pub const fn is_normal(bits: u32) -> bool {
+    is_finite(bits) && bits & INFINITY != 0
 }
 
 /// Document 01: two floats are alike if their bits are equal or both are NaN.

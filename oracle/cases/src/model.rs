@@ -1,5 +1,6 @@
 //! Document 01's host over the unchanged Rust: the Rust's state gives every answer, every row and every field
-//! of the image; what document 01 adds is written here: the refusals, the 56 entries, the image, the refresh.
+//! of the image; what document 01 adds is written here: the refusals, the 56 entries, the image, the refresh. Of document 02 a
+//! multiply's order stands here too, and the directions that the Rust does not rule in `section.rs`.
 
 mod imaged;
 
@@ -12,8 +13,9 @@ use original::ff_state::{FfState, FfVsDirty};
 
 use crate::call::{Call, Gives, LIGHT, MATERIAL, MATRIX, Name};
 use crate::image::{self, ROOM, SLOTS};
+use crate::key::Key;
 use crate::records;
-use crate::section::FIVE;
+use crate::section::{FIVE, Section};
 
 /// Document 01's numbers of the refusals.
 pub mod refusal {
@@ -182,12 +184,16 @@ impl Model {
         }
     }
 
+    fn fill(&self, section: Section, key: Key) -> Vec<u8> {
+        section.fill(&self.rust, self.overflow.iter().copied(), key)
+    }
+
     /// Takes the bits and puts the rows of each section that they name into a copy of the mirror.
     fn refresh(&mut self, call: &Call, mirror: &[u8]) -> Output {
         let bits = self.take();
         let mut mirror = mirror.to_vec();
         for section in FIVE.into_iter().filter(|section| bits & section.bit() != 0) {
-            mirror[section.place(call.key)].copy_from_slice(&section.fill(&self.rust, call.key));
+            mirror[section.place(call.key)].copy_from_slice(&self.fill(section, call.key));
         }
         Output::Refreshed(u32::from(bits), mirror)
     }
@@ -201,7 +207,7 @@ impl Model {
         Ok(match call.name.form().gives {
             Gives::RowCount => Output::Number(u32::from(self.rust.ff_vs_row_count(&key()))),
             Gives::Rows(section) => Output::Number(section.rust_rows(&self.rust, &key())),
-            Gives::Fill(section) => Output::Bytes(section.fill(&self.rust, call.key)),
+            Gives::Fill(section) => Output::Bytes(self.fill(section, call.key)),
             Gives::Mirror => self.refresh(call, mirror),
             Gives::Nothing | Gives::Number | Gives::Item(_) => self.answer_unkeyed(call),
         })

@@ -1,13 +1,16 @@
-//! The sections of a mirror: document 01's bits, first rows and numbers of rows, and the Rust's rows.
+//! The sections of a mirror: document 01's bits, first rows and numbers of rows, and the Rust's rows, with document 02's
+//! directions in them where the Rust no longer rules.
 
 use std::mem::MaybeUninit;
 use std::ops::Range;
 
+use mtld3d_types::{D3DLIGHT_DIRECTIONAL, D3DLIGHT_POINT, D3DLIGHT9, D3DTS_VIEW};
 use original::dxso::FfVsKey;
 use original::ff_state::FfState;
 
+use crate::directions::{Rule, in_view, rule, unit};
 use crate::floats::{alike, with_one_nan};
-use crate::image::number32;
+use crate::image::{SLOTS, number32};
 use crate::key::Key;
 
 /// The bytes of a row.
@@ -15,6 +18,8 @@ pub const ROW: usize = 16;
 /// The rows of a mirror, and its bytes.
 pub const ROWS: usize = 1115;
 pub const MIRROR: usize = ROW * ROWS;
+/// The rows of a light; the second begins with its direction.
+pub const LIGHT_ROWS: usize = 6;
 /// The matrices of indexed blending.
 const INDEXED: u32 = 40;
 
@@ -65,7 +70,7 @@ impl Section {
             Self::Material if key.lighting_enabled == 0 => 1,
             Self::Material if key.specular_enable == 0 => 4,
             Self::Material => 5,
-            Self::Lights => 6 * (8 - key.light_active_mask.leading_zeros()),
+            Self::Lights => LIGHT_ROWS as u32 * (8 - key.light_active_mask.leading_zeros()),
             Self::Palette if key.vertex_blend_count == 0 => 0,
             Self::Palette if key.vertex_blend_indexed != 0 => 4 * INDEXED,
             Self::Palette => 4 * key.vertex_blend_count as u32,
@@ -91,8 +96,22 @@ impl Section {
         })
     }
 
-    /// The Rust's rows; the key's mask is 0 or the compacted active mask.
-    pub(crate) fn fill(self, rust: &FfState, key: Key) -> Vec<u8> {
+    /// The rows; the key's mask is 0 or the compacted active mask. `indices` are those of the lights from index 8 on, ascending.
+    pub(crate) fn fill(
+        self,
+        rust: &FfState,
+        indices: impl Iterator<Item = u32>,
+        key: Key,
+    ) -> Vec<u8> {
+        let mut bytes = self.rust_fill(rust, key);
+        if self == Self::Lights && !bytes.is_empty() {
+            put_directions(rust, &active(rust, indices), &mut bytes);
+        }
+        bytes
+    }
+
+    /// The Rust's rows.
+    fn rust_fill(self, rust: &FfState, key: Key) -> Vec<u8> {
         let rows = self.rows(key);
         let key = &key.rust();
         assert_eq!(
@@ -121,15 +140,47 @@ impl Section {
         bytes
     }
 
-    /// Document 01's count: the rows in which a mirror differs from the Rust's packing.
-    pub(crate) fn wrong_rows(self, rust: &FfState, key: Key, mirror: &[u8]) -> usize {
-        let packing = self.fill(rust, key);
+    /// Document 01's count: the rows in which a mirror differs from the packing.
+    pub(crate) fn wrong_rows(
+        self,
+        rust: &FfState,
+        indices: impl Iterator<Item = u32>,
+        key: Key,
+        mirror: &[u8],
+    ) -> usize {
+        let packing = self.fill(rust, indices, key);
         let found = mirror[self.place(key)].chunks(ROW);
         found
             .zip(packing.chunks(ROW))
             .filter(|(a, b)| (0..ROW).step_by(4).any(|at| !alike_at(a, b, at)))
             .count()
     }
+}
+
+/// Puts the definition's directions into the rows of these lights, where the definition rules.
+fn put_directions(rust: &FfState, lights: &[D3DLIGHT9], bytes: &mut [u8]) {
+    let view = rust.transform(D3DTS_VIEW).expect("a known state");
+    assert_eq!(lights.len() * LIGHT_ROWS * ROW, bytes.len());
+    for (light, rows) in lights.iter().zip(bytes.chunks_mut(LIGHT_ROWS * ROW)) {
+        let direction = in_view(view, &light.direction);
+        if rule(direction) == Rule::Definition {
+            let fours = rows[ROW..].as_chunks_mut().0;
+            for (four, word) in fours.iter_mut().zip(unit(direction)) {
+                *four = word.to_le_bytes();
+            }
+        }
+    }
+}
+
+/// The lights that are packed: of the slots, then of the indices, those that light, eight at most.
+fn active(rust: &FfState, indices: impl Iterator<Item = u32>) -> Vec<D3DLIGHT9> {
+    (0..SLOTS as u32)
+        .chain(indices)
+        .filter(|&index| rust.is_light_enabled_at(index))
+        .filter_map(|index| rust.get_light_at(index))
+        .filter(|light| (D3DLIGHT_POINT..=D3DLIGHT_DIRECTIONAL).contains(&light.type_))
+        .take(SLOTS)
+        .collect()
 }
 
 fn alike_at(a: &[u8], b: &[u8], at: usize) -> bool {

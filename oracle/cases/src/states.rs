@@ -13,9 +13,9 @@ const VIEW: u32 = 2;
 const PROJECTION: u32 = 3;
 const WORLD: u32 = 256;
 
-/// 1e20 and 1e-20, whose squares are no normal floats; the two of them that document 01's run-only case is about.
+/// 1e20 and 1e-20, whose squares are no normal floats; the first is of document 01's run-only case.
 pub const LONG: u32 = 0x60AD_78EC;
-const SHORT: u32 = 0x1E3C_E508;
+pub const SHORT: u32 = 0x1E3C_E508;
 /// Document 01's 1e-6.
 const FLOOR: u32 = 0x3586_37BD;
 
@@ -190,7 +190,7 @@ fn light(random: &mut Random) -> [u32; LIGHT / 4] {
 }
 
 fn direction(random: &mut Random) -> [u32; 3] {
-    let size = random.below(8);
+    let size = random.below(9);
     core::array::from_fn(|_| match size {
         0 => random.pick(&[0, SIGN]),
         1 => random.pick(&[0, SIGN, LONG, LONG | SIGN]),
@@ -200,6 +200,7 @@ fn direction(random: &mut Random) -> [u32; 3] {
         4 => scaled(random, 60, 64),
         5 => random.pick(&SPECIAL),
         6 => random.pick(&[0, SIGN, ONE, ONE | SIGN]),
+        7 => scaled(random, -126, 127),
         _ => scaled(random, -3, 3),
     })
 }

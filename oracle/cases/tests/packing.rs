@@ -119,26 +119,6 @@ fn p11_a_direction_and_p12_a_spot() {
     assert_eq!(lights[5][3], 1_000_000.0);
 }
 
-/// Run only: its square overflows, so the length is infinite.
-#[test]
-fn a_direction_of_1e20_packs_zeros() {
-    for axis in 0..3 {
-        for (sign, expected) in [(1.0, 0), (-1.0, 0x8000_0000)] {
-            let mut direction = [0; 3];
-            direction[axis] = (sign * 1e20f32).to_bits();
-            let lights = rows(
-                &enabled(directed(3, direction)),
-                Name::FillLights,
-                ONE_LIGHT,
-            );
-            let mut zeros = [0; 3];
-            zeros[axis] = expected;
-            let [x, y, z, _] = lights[1].map(f32::to_bits);
-            assert_eq!([x, y, z], zeros);
-        }
-    }
-}
-
 /// 4 goes before 5, 5 is an exact comparison, and a mask of 0 is never refused 5.
 #[test]
 fn refusals_of_packing() {

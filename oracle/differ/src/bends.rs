@@ -343,6 +343,10 @@ bends! {
         StateRefusedTells, "state-refused-tells", ["calls"];
         StateRefreshRow, "state-refresh-row", ["calls"];
         StateRefreshGuard, "state-refresh-guard", ["calls"];
+        DirectionUnscaled, "direction-unscaled", ["directions"];
+        DirectionLastBit, "direction-last-bit", ["directions"];
+        DirectionZeroSign, "direction-zero-sign", ["directions"];
+        DirectionFlushed, "direction-flushed", ["directions"];
     }
 }
 

@@ -6,6 +6,7 @@ mod bend_calls;
 mod bends;
 mod bent;
 mod bytes;
+mod directions;
 mod guarded;
 mod handed;
 mod host;
@@ -84,6 +85,8 @@ fn sums_start_at_negative_zero() -> bool {
 /// Calls of the short run's lists, with each of its two seeds.
 const SHORT_CALLS: u64 = 300_000;
 const SHORT_PACKS: u64 = 150_000;
+/// Its directions of each kind.
+const SHORT_DIRECTIONS: u64 = 500_000;
 
 /// A mix of everything, small enough for the merge gate: with seed 1, then the lists with another.
 fn short(run: &mut Run, host: Host, seed: u64) -> Result<Outcome, String> {
@@ -98,6 +101,7 @@ fn short(run: &mut Run, host: Host, seed: u64) -> Result<Outcome, String> {
         .and_then(|()| lengths::lengths(run, host))
         .and_then(|()| memory::lengths(run, host))
         .and_then(|()| lists::row_counts(run, host, SPARSE))
+        .and_then(|()| directions::directions(run, host, SHORT_DIRECTIONS))
         .and_then(|()| short_lists(run, host))
         .and_then(|()| {
             run.seed = seed;
@@ -121,6 +125,7 @@ fn compare(run: &mut Run, arguments: &Arguments) -> Result<Outcome, String> {
         "lengths" => lengths::lengths(run, host).and_then(|()| memory::lengths(run, host)),
         "calls" => lists::calls(run, host, count(20_000_000)),
         "packs" => lists::packs(run, host, count(20_000_000)),
+        "directions" => directions::directions(run, host, count(10_000_000)),
         "row-count" => {
             let some = arguments
                 .count

@@ -181,4 +181,5 @@ pub fn calls(sample: &mut Sample) {
         }
         running.calls(&reads(number as u32));
     }
+    draws::directions(&mut running);
 }

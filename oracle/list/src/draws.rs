@@ -1,11 +1,15 @@
 //! Row counts and fills under many keys, and frames of one mirror.
 
 use cases::call::{Call, Gives, LIGHT, Length, NAMES, Name};
-use cases::floats::ONE;
+use cases::direction_inputs::VIEWS;
+use cases::floats::{INFINITY, LARGEST, NAN, NORMAL, ONE, SIGN};
 use cases::image;
 use cases::key::Key;
 use cases::section::{FIVE, MIRROR, ROW};
-use cases::states::{enable, mark, refresh, set_light, set_material, set_transform};
+use cases::seen::{LEAST, PAST};
+use cases::states::{
+    LONG, SHORT, directed, enable, mark, refresh, set_light, set_material, set_transform,
+};
 
 use crate::calls::light;
 use crate::running::Running;
@@ -159,4 +163,43 @@ pub fn frames(running: &mut Running) {
     running.put_byte(image::DIRTY, 0);
     running.put_byte(image::MATERIAL + 3, 0x40);
     running.calls(&[refresh(key), mark(7), mark(24), refresh(key)]);
+}
+
+/// Directions that document 02 (T-04) scales and the Rust does not: long ones, short ones, both kinds in one; then the borders of
+/// its domain, each from both sides, and a NaN and an infinity. Each eight under views that keep or turn the signs of zeros, and
+/// that make long ones infinite.
+pub fn directions(running: &mut Running) {
+    const EIGHTS: [[[u32; 3]; 8]; 2] = [
+        [
+            [LONG, 0, 0],
+            [0, LONG | SIGN, 0],
+            [SIGN, 0, LONG],
+            [0, 0, 1],
+            [LONG, SHORT, 0],
+            [1, SIGN, LARGEST],
+            [SHORT, SHORT | SIGN, SHORT],
+            [NORMAL - 1, NORMAL, 3],
+        ],
+        [
+            [0, 0, LEAST - 1],
+            [0, LEAST, SIGN],
+            [PAST, 0, 0],
+            [0x5980_0000, PAST - 1, 0],
+            [PAST - 1, SIGN, 0x59C0_0000],
+            [LEAST, 0x5F00_0001, LEAST],
+            [ONE, NAN, ONE],
+            [ONE, INFINITY, ONE | SIGN],
+        ],
+    ];
+    let key = Key::of([0, 1, 0, 0, 0xFF, 0, 0]);
+    running.call(&Call::plain(Name::ImageFresh));
+    for eight in EIGHTS {
+        for (index, direction) in (0..).zip(eight) {
+            running.calls(&[set_light(index, &directed(3, direction)), enable(index, 1)]);
+        }
+        for view in &VIEWS {
+            let fill = Call::keyed(Name::FillLights, key);
+            running.calls(&[set_transform(2, view), fill, refresh(key)]);
+        }
+    }
 }

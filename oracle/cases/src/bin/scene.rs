@@ -1,12 +1,16 @@
 //! Prints the rows that the Rust packs of one scene, a row a line, as bits: what proofs/Scene of crates/rows and crates/light_rows
 //! expects, in that order. Its inputs are small whole numbers that differ, so that no two can be exchanged unseen; then come two lights that
-//! tell the orders of the sums.
+//! tell the orders of the sums. Last are the directions of proofs/Examples of crates/directions, each with what it packs: the
+//! first three by the Rust, the others in exact fractions.
 
 use cases::answers::Words;
 use cases::call::{Call, Name};
+use cases::directions::{Direction, rust_rules, unit};
+use cases::eight::Eight;
+use cases::floats::{INFINITY, LARGEST, NAN, ONE, SIGN};
 use cases::key::Key;
 use cases::model::Output;
-use cases::states::{enable, set_light, set_material, set_transform};
+use cases::states::{LONG, SHORT, enable, set_light, set_material, set_transform};
 use cases::world::World;
 
 const WORLD: [f32; 16] = [
@@ -28,6 +32,33 @@ const SWALLOWING: [f32; 16] = {
         BIG, BIG, 1.0, 0.0, 1.0, 1.0, 0.0, 0.0, -BIG, 0.0, 0.0, 0.0, 5.0, -BIG, 0.0, 1.0,
     ]
 };
+
+/// Directions of document 02's domain: 3, 4, 12; P11; 0.1, 0.1, 0.4.
+const BY_THE_RUST: [Direction; 3] = [
+    [0x4040_0000, 0x4080_0000, 0x4140_0000],
+    [0, 0, 0x4000_0000],
+    [0x3DCC_CCCD, 0x3DCC_CCCD, 0x3ECC_CCCD],
+];
+/// Others, as they are seen: a -0.0 beside a positive component, or an infinity beside a finite one, takes another view than the
+/// identity.
+const IN_FRACTIONS: [Direction; 8] = [
+    [LONG, 0, 0],
+    [0, LONG | SIGN, 0],
+    [0, 0, 1],
+    [LONG, SHORT, 0],
+    [1, SIGN, LARGEST],
+    [0, SIGN, 0],
+    [NAN, ONE, ONE],
+    [INFINITY, ONE, ONE | SIGN],
+];
+
+fn print_direction(d: Direction, packed: Direction) {
+    let words = d.into_iter().chain(packed).map(|word| match word {
+        0 => " 0".to_string(),
+        _ => format!(" 0x{word:08x}"),
+    });
+    println!("case{}", words.collect::<String>());
+}
 
 const LIT: Key = Key::of([0, 1, 1, 0, 1, 0, 2]);
 
@@ -106,4 +137,14 @@ fn main() {
     }
     ordered(identity, [0.0; 3], [0.1, 0.1, 0.4]);
     ordered(SWALLOWING, [1.0; 3], [1.0; 3]);
+
+    for direction in BY_THE_RUST {
+        let mut eight = Eight::default();
+        assert!(rust_rules(direction) && eight.in_view(direction) == direction);
+        let [x, y, z, _] = eight.rows(&[direction; 8])[0][1];
+        print_direction(direction, [x, y, z]);
+    }
+    for direction in IN_FRACTIONS {
+        print_direction(direction, unit(direction));
+    }
 }

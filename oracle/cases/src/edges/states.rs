@@ -1,8 +1,8 @@
 //! States that are the same for every seed.
 
 use crate::call::{Call, LIGHT};
-use crate::floats::{NAN, ONE, SIGN};
-use crate::states::{LONG, directed, enable, set_light, set_material, set_transform};
+use crate::floats::{LARGEST, NAN, ONE, SIGN};
+use crate::states::{LONG, SHORT, directed, enable, set_light, set_material, set_transform};
 
 /// The calls that make each of them.
 #[must_use]
@@ -14,15 +14,16 @@ pub fn states() -> Vec<Vec<Call>> {
     ]
 }
 
-/// Document 01's run-only case on each axis, with either sign; a direction of zeros, and one of 0,0,2.
+/// Document 01's run-only case on each axis; others of which document 02 (T-04) says another thing than the Rust; one of zeros,
+/// and one of 0,0,2.
 fn directions() -> Vec<Call> {
     let axes = [
         [LONG, 0, 0],
-        [LONG | SIGN, 0, 0],
-        [0, LONG, 0],
         [0, LONG | SIGN, 0],
         [0, 0, LONG],
-        [0, 0, LONG | SIGN],
+        [0, 0, 1],
+        [LONG, SHORT, 0],
+        [1, SIGN, LARGEST],
         [0, SIGN, 0],
         [0, 0, 0x4000_0000],
     ];

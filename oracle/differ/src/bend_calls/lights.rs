@@ -74,15 +74,16 @@ pub fn after(bend: Bend, held: &mut Held<'_>) {
                 }
             }
         }
-        // The length in more than a float's range.
+        // Document 01 alone: a length that overflows makes zeros.
         Bend::LightsLong => {
             for (light, at) in held.lit_slots().into_iter().enumerate() {
                 let entry = |i: usize| image::number32(held.lent.image, at + DIRECTION + 4 * i);
-                let direction = [0, 1, 2].map(|i| f64::from(f32::from_bits(entry(i))));
-                let length = direction.iter().map(|x| x * x).sum::<f64>().sqrt();
-                if light * LIGHT < held.lent.out.len() && length > 1e19 && length.is_finite() {
+                let direction = [0, 1, 2].map(|i| f32::from_bits(entry(i)));
+                let length = direction.iter().map(|x| x * x).sum::<f32>();
+                let finite = direction.iter().all(|x| x.is_finite());
+                if light * LIGHT < held.lent.out.len() && finite && length.is_infinite() {
                     for (i, x) in direction.into_iter().enumerate() {
-                        held.put(light * LIGHT + ROW + 4 * i, ((x / length) as f32).to_bits());
+                        held.put(light * LIGHT + ROW + 4 * i, x.to_bits() & SIGN);
                     }
                 }
             }

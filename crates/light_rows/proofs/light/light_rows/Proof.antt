@@ -1,7 +1,7 @@
 -- `light_rows::light::light_rows` meets its contract. Each row is the definition's, by what the calls that make its parts ensure.
 -- Assumes nothing.
 use mathlib.Core.Path.{ap, ap₂, _∙_}
-use Rattle.light_rows.specs.Direction.{unitDirection}
+use Rattle.directions.specs.Direction.{unitDirection}
 use Rattle.light_rows.specs.Light.{rgbRow, xyzRow, lightRows}
 use Rattle.light_rows.specs.declared.cone.Cone.{Cone}
 use borrow.Author.Needs.{needs}

@@ -1,12 +1,13 @@
 // Directions of length 1.
 ghost use mathlib.Core.Path.{_≡_};
-ghost use Rattle.light_rows.specs.Direction.{unitDirection};
+ghost use Rattle.directions.specs.Direction.{overLength, unitDirection};
+use crate::scale::scaled;
 use d3d9_types::D3DVECTOR;
 use float32::sqrt;
 
 // A length that is 0 or a NaN gives 0, 0, 0.
-pub fn unit_direction(d: D3DVECTOR) -> D3DVECTOR
-    ensures { λ r. ⌜ r ≡ unitDirection d ⌝ }
+fn over_length(d: D3DVECTOR) -> D3DVECTOR
+    ensures { λ r. ⌜ r ≡ overLength d ⌝ }
 {
     let length = sqrt(-0.0 + d.x * d.x + d.y * d.y + d.z * d.z);
     if length > 0.0 {
@@ -21,4 +22,11 @@ pub fn unit_direction(d: D3DVECTOR) -> D3DVECTOR
         y: 0.0,
         z: 0.0,
     }
+}
+
+// A direction of any finite length above 0: it is scaled first.
+pub fn unit_direction(d: D3DVECTOR) -> D3DVECTOR
+    ensures { λ r. ⌜ r ≡ unitDirection d ⌝ }
+{
+    over_length(scaled(d))
 }

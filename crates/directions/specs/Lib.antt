@@ -1,0 +1,3 @@
+pub mod Scale
+pub mod Magnitude
+pub mod Direction
