@@ -33,7 +33,7 @@ enum {
     FF_UNDEFINED_LIGHT = 2, /* no light was set or enabled at this index */
     FF_LIGHTS_FULL = 3,     /* a new index of 8 or more, and FF_OVERFLOW_LIGHTS such are stored */
     FF_WRONG_LENGTH = 4,    /* a slice is not as long as its item */
-    FF_WRONG_MASK = 5,      /* the key's light mask is not 0 and not that of the lights that light */
+    FF_WRONG_MASK = 5,      /* the key's light mask is not 0 and not that of the lights that are packed */
     FF_SINGULAR = 6,        /* the determinant equals 0 or is not finite */
     FF_UNKNOWN_BITS = 7,    /* dirty bits above FF_DIRTY_ALL */
     FF_HAS_RHW = 8,         /* the key is of transformed vertices, which read no section */
@@ -100,7 +100,7 @@ static inline const char *ff_refusal_words(uint32_t answer) {
     case FF_WRONG_LENGTH:
         return "a slice has the wrong length";
     case FF_WRONG_MASK:
-        return "the key's light mask is not that of the lights that light";
+        return "the key's light mask is not that of the lights that are packed";
     case FF_SINGULAR:
         return "the matrix has no inverse";
     case FF_UNKNOWN_BITS:
@@ -172,7 +172,7 @@ uint32_t ff_is_light_defined_at(const uint8_t *image, size_t image_len, uint32_t
 uint32_t ff_vs_source_light_inputs(const uint8_t *image, size_t image_len, uint32_t *out);
 
 /* The masks active, directional and spot of the lights that light, eight at most, packed by ascending index; the last
- * byte is 0. The first is what a key's light_active_mask must be. Refuses 9. */
+ * byte is 0. A key's light_active_mask is made from the first. Refuses 9. */
 uint32_t ff_compacted_light_masks(const uint8_t *image, size_t image_len, uint32_t *out);
 
 /* Dirty sections */
@@ -185,19 +185,23 @@ uint32_t ff_take_ff_vs_dirty(uint8_t *image, size_t image_len, uint32_t *out);
 
 /* Packing: the rows of the shader's constants, by section. These calls leave the image as it is. */
 
-/* A draw is told by its shader's key, which crosses as seven numbers. A flag, one of the first four, is set by any number
- * but 0. FF_KEY stands for the seven parameters, FF_KEY_OF(key) for a struct's seven fields where a call is made. */
+/* A draw is told by its shader's key, which crosses as eight numbers. A flag, one of the first five, is set by any number
+ * but 0. FF_KEY stands for the eight parameters, FF_KEY_OF(key) for a struct's eight fields where a call is made.
+ *
+ * preview is for a pane that shows the scene with at most four lights. Under it the lights that are packed are the first
+ * four of those that light, and light_active_mask, where it is not 0, is theirs: the first byte of ff_compacted_light_masks
+ * & 15. No number of rows looks at preview: those of LIGHTS go by the mask alone. */
 #define FF_KEY                                                                                                       \
     uint8_t has_rhw, uint8_t lighting_enabled, uint8_t specular_enable, uint8_t vertex_blend_indexed,                \
-        uint8_t light_active_mask, uint8_t fog_mode, uint8_t vertex_blend_count
+        uint8_t preview, uint8_t light_active_mask, uint8_t fog_mode, uint8_t vertex_blend_count
 
 #define FF_KEY_OF(key)                                                                                               \
-    (key).has_rhw, (key).lighting_enabled, (key).specular_enable, (key).vertex_blend_indexed,                        \
+    (key).has_rhw, (key).lighting_enabled, (key).specular_enable, (key).vertex_blend_indexed, (key).preview,         \
         (key).light_active_mask, (key).fog_mode, (key).vertex_blend_count
 
 struct ff_vs_key {
-    uint8_t has_rhw, lighting_enabled, specular_enable, vertex_blend_indexed;
-    uint8_t light_active_mask; /* 0, or the first byte of ff_compacted_light_masks */
+    uint8_t has_rhw, lighting_enabled, specular_enable, vertex_blend_indexed, preview;
+    uint8_t light_active_mask; /* 0, or that of the lights that are packed */
     uint8_t fog_mode, vertex_blend_count;
 };
 
@@ -207,7 +211,7 @@ uint32_t ff_vs_row_count(const uint8_t *image, size_t image_len, FF_KEY, uint32_
 
 /* The rows of a section. WV and PROJ 4; MATERIAL 1, lit 4, lit with specular 5; LIGHTS 6 for each light up to the mask's
  * highest bit, lit or not; PALETTE 4 for each matrix: 40 of them where indexed, else the count, none at count 0; TT none.
- * has_rhw and fog_mode are not looked at. Refuses 9. */
+ * The rest of the key is not looked at. Refuses 9. */
 uint32_t ff_wv_section_rows(const uint8_t *image, size_t image_len, FF_KEY, uint32_t *out);
 uint32_t ff_proj_section_rows(const uint8_t *image, size_t image_len, FF_KEY, uint32_t *out);
 uint32_t ff_material_section_rows(const uint8_t *image, size_t image_len, FF_KEY, uint32_t *out);
@@ -226,10 +230,10 @@ uint32_t ff_fill_material_section(const uint8_t *image, size_t image_len, FF_KEY
 uint32_t ff_fill_palette_section(const uint8_t *image, size_t image_len, FF_KEY, uint8_t *dst, size_t dst_len);
 uint32_t ff_fill_tt_section(const uint8_t *image, size_t image_len, FF_KEY, uint8_t *dst, size_t dst_len);
 
-/* The same for the lights that light, six rows each, by ascending index: position as the view sees it, and the kind (3
- * directional, 2 spot, 1 point); unit direction as the view sees it, of any finite length (0, 0, 0 where it has none), and
- * falloff, 1e-6 at least; diffuse rgb and specular alpha; ambient rgb and the spot's offset; attenuation 0 to 2 and range;
- * specular rgb and the spot's scale. light_active_mask is 0, for no rows, or the first byte of ff_compacted_light_masks.
+/* The same for the lights that light, eight at most, under preview four, six rows each, by ascending index: position as the
+ * view sees it, and the kind (3 directional, 2 spot, 1 point); unit direction as the view sees it, of any finite length
+ * (0, 0, 0 where it has none), and falloff, 1e-6 at least; diffuse rgb and specular alpha; ambient rgb and the spot's
+ * offset; attenuation 0 to 2 and range; specular rgb and the spot's scale. light_active_mask is 0, for no rows, or theirs.
  * Refuses 9, 4, 5. */
 uint32_t ff_fill_lights_section(const uint8_t *image, size_t image_len, FF_KEY, uint8_t *dst, size_t dst_len);
 

@@ -120,9 +120,10 @@ fn calls(lights: u32) {
             raw::ff_take_ff_vs_dirty(i, IMAGE, n)
         });
         // Nothing is dirty, as the bits were just taken.
-        let memory = in_memory(|| raw::ff_state_refresh(s, 0, 0, 0, 0, 0, 0, 0, to, MIRROR / 4, n));
+        let memory =
+            in_memory(|| raw::ff_state_refresh(s, 0, 0, 0, 0, 0, 0, 0, 0, to, MIRROR / 4, n));
         row("ff_refresh", lights, None, memory, || {
-            raw::ff_refresh(i, IMAGE, 0, 0, 0, 0, 0, 0, 0, mirror, MIRROR, n)
+            raw::ff_refresh(i, IMAGE, 0, 0, 0, 0, 0, 0, 0, 0, mirror, MIRROR, n)
         });
         let mut image = Box::new([0; IMAGE]);
         let to = image.as_mut_ptr();

@@ -209,21 +209,21 @@ impl Both {
     }
 
     /// One refresh of ours, of what is dirty, into a mirror.
-    fn refresh(s: &mut raw::FfState, key: [u8; 7], mirror: &mut [f32]) -> u32 {
-        let [rhw, lit, specular, indexed, mask, fog, count] = key;
+    fn refresh(s: &mut raw::FfState, key: [u8; 8], mirror: &mut [f32]) -> u32 {
+        let [rhw, lit, specular, indexed, preview, mask, fog, count] = key;
         let mut bits = 0;
         let (to, len) = (mirror.as_mut_ptr(), mirror.len());
         // SAFETY: as above; the pointer goes with the slice's length.
         accepted(unsafe {
             raw::ff_state_refresh(
-                s, rhw, lit, specular, indexed, mask, fog, count, to, len, &mut bits,
+                s, rhw, lit, specular, indexed, preview, mask, fog, count, to, len, &mut bits,
             )
         });
         bits
     }
 
     /// Six refreshes of the palette, each into a mirror of its own, beside six fills.
-    fn six(&mut self, key: &FfVsKey, numbers: [u8; 7], matrices: usize, cleared: bool) -> Times {
+    fn six(&mut self, key: &FfVsKey, numbers: [u8; 8], matrices: usize, cleared: bool) -> Times {
         let mut a = vec![0f32; PLAYERS * FLOATS];
         let mut b = vec![[MaybeUninit::new([0f32; 4]); ROWS]; PLAYERS];
         Self::refresh(&mut self.ours, numbers, &mut a[..FLOATS]);
@@ -427,7 +427,7 @@ fn growths() -> Vec<Growth> {
                         numbers[3] = 0;
                     }
                     key.vertex_blend_count = n;
-                    numbers[6] = n;
+                    numbers[7] = n;
                     let six = Both::new(0).six(&key, numbers, usize::from(n), false);
                     let one = |t: f64| t / PLAYERS as f64;
                     (

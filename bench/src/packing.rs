@@ -23,7 +23,7 @@ const PLACES: usize = 16;
 type Rows<'a> = &'a mut [MaybeUninit<[f32; 4]>];
 type Loop = unsafe extern "C" fn(u32, f32, *mut f32, usize) -> u32;
 type Fills =
-    unsafe extern "C" fn(*const u8, usize, u8, u8, u8, u8, u8, u8, u8, *mut u8, usize) -> u32;
+    unsafe extern "C" fn(*const u8, usize, u8, u8, u8, u8, u8, u8, u8, u8, *mut u8, usize) -> u32;
 
 mod loops {
     unsafe extern "C" {
@@ -210,7 +210,7 @@ fn by_value<T: Theirs>(rows: usize, ours: Loop, key: &FfVsKey) -> Times {
 fn over_image<T: Theirs>(rows: usize, fill: Fills, scene: &Scene) -> Times {
     let mut a = vec![0u8; ROW * rows];
     let mut b = vec![MaybeUninit::new([0f32; 4]); rows];
-    let [rhw, lit, specular, indexed, mask, fog, count] = KEY;
+    let [rhw, lit, specular, indexed, preview, mask, fog, count] = KEY;
     let (i, dst, len) = (scene.image.as_ptr(), a.as_mut_ptr(), a.len());
     let times = alternating(
         1,
@@ -218,7 +218,7 @@ fn over_image<T: Theirs>(rows: usize, fill: Fills, scene: &Scene) -> Times {
             // SAFETY: each pointer goes with its slice's length, and the two are apart.
             let answer = unsafe {
                 fill(
-                    i, IMAGE, rhw, lit, specular, indexed, mask, fog, count, dst, len,
+                    i, IMAGE, rhw, lit, specular, indexed, preview, mask, fog, count, dst, len,
                 )
             };
             assert_eq!(answer, 0, "a fill is refused");

@@ -79,7 +79,7 @@ fn over_image(marked: &Marked, key: &FfVsKey) -> Times {
     state.take_ff_vs_dirty();
     let mut a = vec![0u8; BYTES];
     let mut b = [MaybeUninit::new([0f32; 4]); ROWS];
-    let [rhw, lit, specular, indexed, mask, fog, count] = KEY;
+    let [rhw, lit, specular, indexed, preview, mask, fog, count] = KEY;
     let (i, mirror, mut out) = (image.as_mut_ptr(), a.as_mut_ptr(), 0);
     // SAFETY: here and below each pointer goes with its slice's length, and no two overlap.
     let answer = unsafe { raw::ff_take_ff_vs_dirty(i, IMAGE, &mut out) };
@@ -91,8 +91,8 @@ fn over_image(marked: &Marked, key: &FfVsKey) -> Times {
             let answers = unsafe {
                 raw::ff_mark_ff_vs_dirty(i, IMAGE, marked.bits)
                     | raw::ff_refresh(
-                        i, IMAGE, rhw, lit, specular, indexed, mask, fog, count, mirror, BYTES,
-                        &mut out,
+                        i, IMAGE, rhw, lit, specular, indexed, preview, mask, fog, count, mirror,
+                        BYTES, &mut out,
                     )
             };
             assert_eq!((answers, out), (0, marked.bits), "a refresh is refused");

@@ -13,7 +13,7 @@ pub const IMAGE: usize = 24_204;
 const LIGHT: usize = 104;
 
 /// The numbers of `key` as they cross.
-pub const KEY: [u8; 7] = [0, 1, 1, 1, 0xFF, 0, 1];
+pub const KEY: [u8; 8] = [0, 1, 1, 1, 0, 0xFF, 0, 1];
 
 /// Sixteen numbers, as in crates/bench_loops. Made entry by entry: rows that are first made and then copied cost the
 /// Rust's loops more than a fill of PROJ does.

@@ -53,6 +53,27 @@ static void scene(void) {
     accept(ff_set_light_enabled_at(image, sizeof image, 70, 1));
 }
 
+/* Nine lights light: eight of them are packed for the main screen, four for the preview. */
+static void preview(struct ff_vs_key key) {
+    static struct packing four;
+    uint32_t masks;
+    int others;
+
+    for (uint32_t index = 0; index < 8; index++)
+        accept(ff_set_light_enabled_at(image, sizeof image, index, 1));
+    accept(ff_compacted_light_masks(image, sizeof image, &masks));
+    key.light_active_mask = (uint8_t)masks;
+    pack(image, key, &packed);
+    key.preview = 1;
+    show_answer("eight lights in the preview",
+                ff_fill_lights_section(image, sizeof image, FF_KEY_OF(key), SECTION(four.rows, FF_ROW_LIGHTS, 48)));
+    key.light_active_mask &= 15;
+    pack(image, key, &four);
+    printf("rows of lights on the main screen: %u\n", (unsigned)packed.lights);
+    others = memcmp(packed.rows + FF_ROW_LIGHTS * FF_ROW_BYTES, SECTION(four.rows, FF_ROW_LIGHTS, four.lights));
+    printf("rows of lights in the preview: %u, the first of those: %s\n", (unsigned)four.lights, others ? "no" : "yes");
+}
+
 int main(void) {
     struct ff_vs_key key = {0};
     uint8_t *const rows = packed.rows;
@@ -81,5 +102,6 @@ int main(void) {
     key.light_active_mask = 2;
     show_answer("light mask 2",
                 ff_fill_lights_section(image, sizeof image, FF_KEY_OF(key), SECTION(rows, FF_ROW_LIGHTS, 12)));
+    preview(key);
     return 0;
 }

@@ -133,6 +133,28 @@ fn frames(state: &mut FfImage) -> Result<(), Box<dyn Error>> {
     Ok(())
 }
 
+/// Nine lights light: eight of them are packed for the main screen, four for the preview.
+fn preview(state: &mut FfImage) -> Result<(), Refusal> {
+    for index in 0..8 {
+        state.set_light_enabled_at(index, true)?;
+    }
+    let screen = key(state);
+    let preview = VsKey {
+        preview: true,
+        light_active_mask: screen.light_active_mask & 15,
+        ..screen
+    };
+    let eight = state.fill_lights_section(&screen)?;
+    let four = state.fill_lights_section(&preview)?;
+    let first = four == eight[..four.len()];
+    println!("rows of lights on the main screen: {}", eight.len());
+    println!(
+        "rows of lights in the preview: {}, the first of those: {first}",
+        four.len()
+    );
+    Ok(())
+}
+
 fn main() -> Result<(), Box<dyn Error>> {
     let mut state = FfImage::fresh();
     println!("dirty: {}", state.take_ff_vs_dirty());
@@ -180,6 +202,7 @@ fn main() -> Result<(), Box<dyn Error>> {
 
     pack(&state)?;
     frames(&mut state)?;
+    preview(&mut state)?;
 
     let stored = *state.as_bytes();
     println!("read in again: {}", FfImage::from_bytes(&stored)? == state);

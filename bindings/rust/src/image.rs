@@ -36,7 +36,7 @@ pub const OVERFLOW_LIGHTS: usize = 56;
 /// The masks of the lights that light, packed by ascending index: bit i is the i-th of them.
 #[derive(Clone, Copy, Debug, PartialEq, Eq)]
 pub struct LightMasks {
-    /// What a key's `light_active_mask` must be.
+    /// All of them; a key's `light_active_mask` is made from it.
     pub active: u8,
     /// Those that are directional.
     pub directional: u8,

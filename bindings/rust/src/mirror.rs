@@ -83,7 +83,7 @@ impl FfImage {
     /// rows overwritten from outside is right again from the first accepted refresh after it is marked.
     pub fn refresh(&mut self, key: &VsKey, mirror: &mut Mirror) -> Result<u32, Refusal> {
         let mut out = 0;
-        let [a, b, c, d, e, f, g] = fields(key);
+        let [a, b, c, d, e, f, g, h] = fields(key);
         let (image, mirror) = (self.lent(), mirror.as_mut_bytes());
         let (to, len) = (mirror.as_mut_ptr(), mirror.len());
         // SAFETY: each pointer goes with its array's length, and the three are apart.
@@ -98,6 +98,7 @@ impl FfImage {
                 e,
                 f,
                 g,
+                h,
                 to,
                 len,
                 &mut out,

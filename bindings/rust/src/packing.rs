@@ -20,7 +20,11 @@ pub struct VsKey {
     pub specular_enable: bool,
     /// Blending picks its matrices by an index in each vertex.
     pub vertex_blend_indexed: bool,
-    /// 0, or [`LightMasks::active`](crate::LightMasks::active) of [`FfImage::compacted_light_masks`].
+    /// The draw is of a preview, where the lights that are packed are the first four of those that light, else the first
+    /// eight. No number of rows looks at it.
+    pub preview: bool,
+    /// 0, or the mask of the lights that are packed: [`LightMasks::active`](crate::LightMasks::active) of
+    /// [`FfImage::compacted_light_masks`], in a preview `active & 15`.
     pub light_active_mask: u8,
     /// The vertex fog; no row and no count depends on it.
     pub fog_mode: u8,
@@ -28,9 +32,10 @@ pub struct VsKey {
     pub vertex_blend_count: u8,
 }
 
-type Counting = unsafe extern "C" fn(*const u8, usize, u8, u8, u8, u8, u8, u8, u8, *mut u32) -> u32;
+type Counting =
+    unsafe extern "C" fn(*const u8, usize, u8, u8, u8, u8, u8, u8, u8, u8, *mut u32) -> u32;
 type Filling =
-    unsafe extern "C" fn(*const u8, usize, u8, u8, u8, u8, u8, u8, u8, *mut u8, usize) -> u32;
+    unsafe extern "C" fn(*const u8, usize, u8, u8, u8, u8, u8, u8, u8, u8, *mut u8, usize) -> u32;
 
 impl FfImage {
     /// How many rows of constants a draw reads, from row 0 on: from 1 to 1,115.
@@ -99,7 +104,7 @@ impl FfImage {
             .expect("as many rows as the library counts are accepted")
     }
 
-    /// Six rows for each light that lights, by ascending index, or [`Refusal::WrongMask`]:
+    /// Six rows for each light that is packed, by ascending index, or [`Refusal::WrongMask`]:
     /// - position in view space, and the kind: 3 directional, 2 spot, 1 point;
     /// - unit direction in view space, of any finite length (zeros where it has none), and falloff, 1e-6 at least;
     /// - diffuse rgb, and specular alpha;
@@ -129,19 +134,20 @@ impl FfImage {
 
     fn counted(&self, count: Counting, key: &VsKey) -> u32 {
         let mut out = 0;
-        let (image, [a, b, c, d, e, f, g]) = (self.as_bytes(), fields(key));
+        let (image, [a, b, c, d, e, f, g, h]) = (self.as_bytes(), fields(key));
+        let (from, len) = (image.as_ptr(), image.len());
         // SAFETY: the pointer goes with the array's length, and `out` is apart from it.
-        let answer = unsafe { count(image.as_ptr(), image.len(), a, b, c, d, e, f, g, &mut out) };
+        let answer = unsafe { count(from, len, a, b, c, d, e, f, g, h, &mut out) };
         Refusal::of(answer).expect("the bytes of an FfImage are an image");
         out
     }
 
     fn filled(&self, fill: Filling, key: &VsKey, rows: usize) -> Result<Vec<Row>, Refusal> {
         let mut dst = vec![0; ROW_BYTES * rows];
-        let (image, [a, b, c, d, e, f, g]) = (self.as_bytes(), fields(key));
+        let (image, [a, b, c, d, e, f, g, h]) = (self.as_bytes(), fields(key));
         let (to, len) = (dst.as_mut_ptr(), dst.len());
         // SAFETY: each pointer goes with its slice's length, and the two are apart.
-        Refusal::of(unsafe { fill(image.as_ptr(), image.len(), a, b, c, d, e, f, g, to, len) })?;
+        Refusal::of(unsafe { fill(image.as_ptr(), image.len(), a, b, c, d, e, f, g, h, to, len) })?;
         Ok(rows_of(&dst))
     }
 }
@@ -153,15 +159,52 @@ pub(crate) fn rows_of(bytes: &[u8]) -> Vec<Row> {
     floats.as_chunks().0.to_vec()
 }
 
-/// The seven numbers as they cross.
-pub(crate) fn fields(key: &VsKey) -> [u8; 7] {
+/// The eight numbers as they cross.
+pub(crate) fn fields(key: &VsKey) -> [u8; 8] {
     [
         u8::from(key.has_rhw),
         u8::from(key.lighting_enabled),
         u8::from(key.specular_enable),
         u8::from(key.vertex_blend_indexed),
+        u8::from(key.preview),
         key.light_active_mask,
         key.fog_mode,
         key.vertex_blend_count,
     ]
+}
+
+#[cfg(test)]
+mod tests {
+    use super::*;
+
+    /// The fills above lend the right length always: another one is refused before the mask is looked at.
+    #[test]
+    fn rows_of_another_number_are_refused_before_a_mask() {
+        let mut state = FfImage::fresh();
+        for index in 0..9 {
+            state.set_light_enabled_at(index, true).unwrap();
+        }
+        for (preview, light_active_mask, right, refusal) in [
+            (false, 0xFF, 48, None),
+            (false, 0x0F, 24, Some(Refusal::WrongMask)),
+            (true, 0xFF, 48, Some(Refusal::WrongMask)),
+            (true, 0x0F, 24, None),
+            (true, 0, 0, None),
+        ] {
+            let key = VsKey {
+                preview,
+                light_active_mask,
+                ..VsKey::default()
+            };
+            for rows in [0, 18, 24, 30, 48, 54] {
+                let expected = if rows == right {
+                    refusal
+                } else {
+                    Some(Refusal::WrongLength)
+                };
+                let filled = state.filled(raw::ff_fill_lights_section, &key, rows);
+                assert_eq!(filled.err(), expected, "{rows} rows, {key:?}");
+            }
+        }
+    }
 }

@@ -106,23 +106,23 @@ unsafe extern "C" {
     pub safe fn ff_cos(x: u32) -> u32;
 }
 
-// The seven numbers in the middle are a key's.
+// The eight numbers in the middle are a key's.
 #[rustfmt::skip]
 unsafe extern "C" {
-    pub fn ff_vs_row_count(image: *const u8, image_len: usize, has_rhw: u8, lit: u8, specular: u8, indexed: u8, mask: u8, fog: u8, count: u8, out: *mut u32) -> u32;
-    pub fn ff_wv_section_rows(image: *const u8, image_len: usize, has_rhw: u8, lit: u8, specular: u8, indexed: u8, mask: u8, fog: u8, count: u8, out: *mut u32) -> u32;
-    pub fn ff_proj_section_rows(image: *const u8, image_len: usize, has_rhw: u8, lit: u8, specular: u8, indexed: u8, mask: u8, fog: u8, count: u8, out: *mut u32) -> u32;
-    pub fn ff_material_section_rows(image: *const u8, image_len: usize, has_rhw: u8, lit: u8, specular: u8, indexed: u8, mask: u8, fog: u8, count: u8, out: *mut u32) -> u32;
-    pub fn ff_lights_section_rows(image: *const u8, image_len: usize, has_rhw: u8, lit: u8, specular: u8, indexed: u8, mask: u8, fog: u8, count: u8, out: *mut u32) -> u32;
-    pub fn ff_palette_section_rows(image: *const u8, image_len: usize, has_rhw: u8, lit: u8, specular: u8, indexed: u8, mask: u8, fog: u8, count: u8, out: *mut u32) -> u32;
-    pub fn ff_tt_section_rows(image: *const u8, image_len: usize, has_rhw: u8, lit: u8, specular: u8, indexed: u8, mask: u8, fog: u8, count: u8, out: *mut u32) -> u32;
-    pub fn ff_fill_wv_section(image: *const u8, image_len: usize, has_rhw: u8, lit: u8, specular: u8, indexed: u8, mask: u8, fog: u8, count: u8, dst: *mut u8, dst_len: usize) -> u32;
-    pub fn ff_fill_proj_section(image: *const u8, image_len: usize, has_rhw: u8, lit: u8, specular: u8, indexed: u8, mask: u8, fog: u8, count: u8, dst: *mut u8, dst_len: usize) -> u32;
-    pub fn ff_fill_material_section(image: *const u8, image_len: usize, has_rhw: u8, lit: u8, specular: u8, indexed: u8, mask: u8, fog: u8, count: u8, dst: *mut u8, dst_len: usize) -> u32;
-    pub fn ff_fill_lights_section(image: *const u8, image_len: usize, has_rhw: u8, lit: u8, specular: u8, indexed: u8, mask: u8, fog: u8, count: u8, dst: *mut u8, dst_len: usize) -> u32;
-    pub fn ff_fill_palette_section(image: *const u8, image_len: usize, has_rhw: u8, lit: u8, specular: u8, indexed: u8, mask: u8, fog: u8, count: u8, dst: *mut u8, dst_len: usize) -> u32;
-    pub fn ff_fill_tt_section(image: *const u8, image_len: usize, has_rhw: u8, lit: u8, specular: u8, indexed: u8, mask: u8, fog: u8, count: u8, dst: *mut u8, dst_len: usize) -> u32;
-    pub fn ff_refresh(image: *mut u8, image_len: usize, has_rhw: u8, lit: u8, specular: u8, indexed: u8, mask: u8, fog: u8, count: u8, mirror: *mut u8, mirror_len: usize, out: *mut u32) -> u32;
+    pub fn ff_vs_row_count(image: *const u8, image_len: usize, has_rhw: u8, lighting_enabled: u8, specular_enable: u8, vertex_blend_indexed: u8, preview: u8, light_active_mask: u8, fog_mode: u8, vertex_blend_count: u8, out: *mut u32) -> u32;
+    pub fn ff_wv_section_rows(image: *const u8, image_len: usize, has_rhw: u8, lighting_enabled: u8, specular_enable: u8, vertex_blend_indexed: u8, preview: u8, light_active_mask: u8, fog_mode: u8, vertex_blend_count: u8, out: *mut u32) -> u32;
+    pub fn ff_proj_section_rows(image: *const u8, image_len: usize, has_rhw: u8, lighting_enabled: u8, specular_enable: u8, vertex_blend_indexed: u8, preview: u8, light_active_mask: u8, fog_mode: u8, vertex_blend_count: u8, out: *mut u32) -> u32;
+    pub fn ff_material_section_rows(image: *const u8, image_len: usize, has_rhw: u8, lighting_enabled: u8, specular_enable: u8, vertex_blend_indexed: u8, preview: u8, light_active_mask: u8, fog_mode: u8, vertex_blend_count: u8, out: *mut u32) -> u32;
+    pub fn ff_lights_section_rows(image: *const u8, image_len: usize, has_rhw: u8, lighting_enabled: u8, specular_enable: u8, vertex_blend_indexed: u8, preview: u8, light_active_mask: u8, fog_mode: u8, vertex_blend_count: u8, out: *mut u32) -> u32;
+    pub fn ff_palette_section_rows(image: *const u8, image_len: usize, has_rhw: u8, lighting_enabled: u8, specular_enable: u8, vertex_blend_indexed: u8, preview: u8, light_active_mask: u8, fog_mode: u8, vertex_blend_count: u8, out: *mut u32) -> u32;
+    pub fn ff_tt_section_rows(image: *const u8, image_len: usize, has_rhw: u8, lighting_enabled: u8, specular_enable: u8, vertex_blend_indexed: u8, preview: u8, light_active_mask: u8, fog_mode: u8, vertex_blend_count: u8, out: *mut u32) -> u32;
+    pub fn ff_fill_wv_section(image: *const u8, image_len: usize, has_rhw: u8, lighting_enabled: u8, specular_enable: u8, vertex_blend_indexed: u8, preview: u8, light_active_mask: u8, fog_mode: u8, vertex_blend_count: u8, dst: *mut u8, dst_len: usize) -> u32;
+    pub fn ff_fill_proj_section(image: *const u8, image_len: usize, has_rhw: u8, lighting_enabled: u8, specular_enable: u8, vertex_blend_indexed: u8, preview: u8, light_active_mask: u8, fog_mode: u8, vertex_blend_count: u8, dst: *mut u8, dst_len: usize) -> u32;
+    pub fn ff_fill_material_section(image: *const u8, image_len: usize, has_rhw: u8, lighting_enabled: u8, specular_enable: u8, vertex_blend_indexed: u8, preview: u8, light_active_mask: u8, fog_mode: u8, vertex_blend_count: u8, dst: *mut u8, dst_len: usize) -> u32;
+    pub fn ff_fill_lights_section(image: *const u8, image_len: usize, has_rhw: u8, lighting_enabled: u8, specular_enable: u8, vertex_blend_indexed: u8, preview: u8, light_active_mask: u8, fog_mode: u8, vertex_blend_count: u8, dst: *mut u8, dst_len: usize) -> u32;
+    pub fn ff_fill_palette_section(image: *const u8, image_len: usize, has_rhw: u8, lighting_enabled: u8, specular_enable: u8, vertex_blend_indexed: u8, preview: u8, light_active_mask: u8, fog_mode: u8, vertex_blend_count: u8, dst: *mut u8, dst_len: usize) -> u32;
+    pub fn ff_fill_tt_section(image: *const u8, image_len: usize, has_rhw: u8, lighting_enabled: u8, specular_enable: u8, vertex_blend_indexed: u8, preview: u8, light_active_mask: u8, fog_mode: u8, vertex_blend_count: u8, dst: *mut u8, dst_len: usize) -> u32;
+    pub fn ff_refresh(image: *mut u8, image_len: usize, has_rhw: u8, lighting_enabled: u8, specular_enable: u8, vertex_blend_indexed: u8, preview: u8, light_active_mask: u8, fog_mode: u8, vertex_blend_count: u8, mirror: *mut u8, mirror_len: usize, out: *mut u32) -> u32;
 }
 
 // The same on a state in memory. A matrix is 16 floats, a material 17.
@@ -138,16 +138,16 @@ unsafe extern "C" {
     pub fn ff_state_vs_source_light_inputs(s: *const FfState, out: *mut u32) -> u32;
     pub fn ff_state_mark_ff_vs_dirty(s: *mut FfState, bits: u32) -> u32;
     pub fn ff_state_take_ff_vs_dirty(s: *mut FfState, out: *mut u32) -> u32;
-    #[rustfmt::skip]
     pub fn ff_state_refresh(
         s: *mut FfState,
         has_rhw: u8,
-        lit: u8,
-        specular: u8,
-        indexed: u8,
-        mask: u8,
-        fog: u8,
-        count: u8,
+        lighting_enabled: u8,
+        specular_enable: u8,
+        vertex_blend_indexed: u8,
+        preview: u8,
+        light_active_mask: u8,
+        fog_mode: u8,
+        vertex_blend_count: u8,
         mirror: *mut f32,
         mirror_len: usize,
         out: *mut u32,

@@ -15,8 +15,8 @@ pub enum Refusal {
     LightsFull = 3,
     /// A slice is not as long as its item.
     WrongLength = 4,
-    /// The key's light mask is not 0 and not that of the lights that light
-    /// ([`FfImage::compacted_light_masks`](crate::FfImage::compacted_light_masks)).
+    /// The key's light mask is not 0 and not that of the lights that are packed
+    /// ([`VsKey::light_active_mask`](crate::VsKey::light_active_mask)).
     WrongMask = 5,
     /// The determinant equals 0 or is not finite.
     Singular = 6,
@@ -55,7 +55,7 @@ impl Refusal {
             Self::UndefinedLight => "no light is defined at this index",
             Self::LightsFull => "no room for another light of index 8 or more",
             Self::WrongLength => "a slice has the wrong length",
-            Self::WrongMask => "the key's light mask is not that of the lights that light",
+            Self::WrongMask => "the key's light mask is not that of the lights that are packed",
             Self::Singular => "the matrix has no inverse",
             Self::UnknownBits => "dirty bits above the six",
             Self::HasRhw => "the key is of transformed vertices",

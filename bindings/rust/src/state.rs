@@ -135,11 +135,11 @@ impl FfState {
     /// [`Refusal::WrongLength`].
     pub fn refresh(&mut self, key: &VsKey, mirror: &mut [f32]) -> Result<u32, Refusal> {
         let mut out = 0;
-        let [a, b, c, d, e, f, g] = fields(key);
+        let [a, b, c, d, e, f, g, h] = fields(key);
         let (to, len) = (mirror.as_mut_ptr(), mirror.len());
         let s = &mut *self.memory;
         // SAFETY: as above; the pointer goes with the slice's length.
-        let answer = unsafe { raw::ff_state_refresh(s, a, b, c, d, e, f, g, to, len, &mut out) };
+        let answer = unsafe { raw::ff_state_refresh(s, a, b, c, d, e, f, g, h, to, len, &mut out) };
         Refusal::of(answer)?;
         Ok(out)
     }

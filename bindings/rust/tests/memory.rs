@@ -145,6 +145,36 @@ fn a_refused_refresh_changes_nothing() {
     assert_eq!(state.take_ff_vs_dirty(), ALL_DIRTY);
 }
 
+/// Document 02, T-01: nine lights light, and a preview packs the first four.
+#[test]
+fn a_preview_of_four_lights() {
+    let mut state = FfState::fresh();
+    for index in 0..9 {
+        state.set_light_enabled_at(index, true).unwrap();
+    }
+    // What a key is made from keeps eight.
+    let active = state.vs_source_light_inputs() as u8;
+    assert_eq!(active, 0xFF);
+    let preview = |light_active_mask| VsKey {
+        preview: true,
+        light_active_mask,
+        ..VsKey::default()
+    };
+    let mut mirror = foreign();
+    let short = Err(Refusal::WrongLength);
+    assert_eq!(state.refresh(&preview(active), &mut mirror[1..]), short);
+    let wrong = Err(Refusal::WrongMask);
+    assert_eq!(state.refresh(&preview(active), &mut mirror), wrong);
+    assert_eq!(mirror, foreign());
+    assert_eq!(state.refresh(&preview(active & 15), &mut mirror), Ok(63));
+    let sections = [0..4, 4..8, 10..11, 15..39];
+    assert_eq!(
+        written(&mirror),
+        sections.into_iter().flatten().collect::<Vec<_>>()
+    );
+    assert_eq!(state.refresh(&preview(0), &mut mirror), Ok(0));
+}
+
 #[test]
 fn an_image_and_back() {
     let mut image = FfImage::fresh();

@@ -10,6 +10,7 @@ const KEY: VsKey = VsKey {
     lighting_enabled: false,
     specular_enable: false,
     vertex_blend_indexed: false,
+    preview: false,
     light_active_mask: 0,
     fog_mode: 0,
     vertex_blend_count: 0,
@@ -263,4 +264,88 @@ fn a_mask_that_is_not_the_states_is_refused() {
         assert_eq!(state.lights_section_rows(&key), rows);
     }
     assert_eq!(Refusal::WrongMask.number(), 5);
+}
+
+/// So many lights that light, from index 2 on, the n-th at x = n; one below that is off, and one that lights nothing.
+fn in_a_row(count: u8) -> FfImage {
+    let light = |type_, x| Light {
+        type_,
+        position: Vector { x, y: 0.0, z: 0.0 },
+        ..Light::default()
+    };
+    let mut state = FfImage::fresh();
+    state.set_light_enabled_at(0, false).unwrap();
+    state.set_light_at(1, &light(0, 0.0)).unwrap();
+    state.set_light_enabled_at(1, true).unwrap();
+    for n in (1..=count).rev() {
+        let index = u32::from(n) + 1;
+        let light = light(D3DLIGHT_POINT, f32::from(n));
+        state.set_light_at(index, &light).unwrap();
+        state.set_light_enabled_at(index, true).unwrap();
+    }
+    state
+}
+
+/// Document 02, T-01: "The preview list is the first four of the full one".
+#[test]
+fn a_preview_packs_the_first_four_lights() {
+    let state = in_a_row(9);
+    let preview = VsKey {
+        preview: true,
+        light_active_mask: 0x0F,
+        ..LIT
+    };
+    let four = state.fill_lights_section(&preview).unwrap();
+    assert_eq!(four.len(), 24);
+    for (six, x) in four.chunks(6).zip([1.0, 2.0, 3.0, 4.0]) {
+        assert_eq!(six[0], [x, 0.0, 0.0, 1.0]);
+    }
+    assert_eq!(four, lights(&state)[..24]);
+    // The rows go by the mask alone, so that eight have room, and are refused all the same.
+    let eight = VsKey {
+        light_active_mask: 0xFF,
+        ..preview
+    };
+    assert_eq!(state.lights_section_rows(&preview), 24);
+    assert_eq!(state.lights_section_rows(&eight), 48);
+    assert_eq!(state.vs_row_count(&preview), 39);
+    assert_eq!(state.vs_row_count(&eight), 63);
+    assert_eq!(state.fill_lights_section(&eight), Err(Refusal::WrongMask));
+    // The reads keep eight.
+    assert_eq!(state.compacted_light_masks().active, 0xFF);
+    assert_eq!(state.vs_source_light_inputs() as u8, 0xFF);
+}
+
+/// "its mask has at most four bits, and refusal 5 compares with the mask under the caller's limit": 0 is accepted too.
+#[test]
+fn the_masks_of_a_preview() {
+    for (count, full, four) in [
+        (3, 0x07, 0x07),
+        (4, 0x0F, 0x0F),
+        (5, 0x1F, 0x0F),
+        (8, 0xFF, 0x0F),
+        (9, 0xFF, 0x0F),
+    ] {
+        let state = in_a_row(count);
+        let active = state.compacted_light_masks().active;
+        assert_eq!((active, active & 15), (full, four));
+        for (preview, right) in [(false, full), (true, four)] {
+            for light_active_mask in 0..=255 {
+                let key = VsKey {
+                    preview,
+                    light_active_mask,
+                    ..KEY
+                };
+                let rows = state.fill_lights_section(&key);
+                if light_active_mask == 0 || light_active_mask == right {
+                    assert_eq!(
+                        rows.unwrap(),
+                        lights(&state)[..state.lights_section_rows(&key)]
+                    );
+                } else {
+                    assert_eq!(rows, Err(Refusal::WrongMask), "{count} lights, {key:?}");
+                }
+            }
+        }
+    }
 }

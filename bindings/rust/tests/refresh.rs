@@ -238,3 +238,53 @@ fn a_refused_refresh_changes_nothing() {
         "refused 8: the key is of transformed vertices"
     );
 }
+
+/// Document 02, T-01: "The limit joins the shape fields, so a mirror that changes limit needs marking like any other
+/// change."
+#[test]
+fn a_mirror_that_changes_limit_needs_marking() {
+    let mut state = FfImage::fresh();
+    for index in 0..9u8 {
+        let light = Light {
+            range: f32::from(index),
+            ..Light::default()
+        };
+        state.set_light_at(index.into(), &light).unwrap();
+        state.set_light_enabled_at(index.into(), true).unwrap();
+    }
+    let key = |preview, light_active_mask| VsKey {
+        preview,
+        light_active_mask,
+        ..VsKey::default()
+    };
+    let mut mirror = foreign();
+    for (key, mask) in [(key(true, 0xFF), 0xFF), (key(false, 0x0F), 0x0F)] {
+        let refused = state.refresh(&key, &mut mirror);
+        assert_eq!(refused, Err(Refusal::WrongMask), "mask {mask}");
+        assert_eq!(mirror, foreign());
+    }
+    assert_eq!(state.refresh(&key(true, 0x0F), &mut mirror), Ok(63));
+    let sections = [0..4, 4..8, 10..11, 15..39];
+    assert_eq!(
+        written(&mirror),
+        sections.into_iter().flatten().collect::<Vec<_>>()
+    );
+    // The range stands in the fifth row of a light.
+    let ranges = |mirror: &Mirror, lights: usize| -> Vec<f32> {
+        let rows = mirror.rows();
+        (0..lights).map(|n| rows[15 + 6 * n + 4][3]).collect()
+    };
+    assert_eq!(ranges(&mirror, 4), [0.0, 1.0, 2.0, 3.0]);
+    // The main screen's rows of lights are not written before they are marked.
+    let before = mirror.clone();
+    assert_eq!(state.refresh(&key(false, 0xFF), &mut mirror), Ok(0));
+    assert_eq!(mirror, before);
+    state.mark_ff_vs_dirty(ALL_DIRTY).unwrap();
+    assert_eq!(state.refresh(&key(false, 0xFF), &mut mirror), Ok(63));
+    let eight = [0.0, 1.0, 2.0, 3.0, 4.0, 5.0, 6.0, 7.0];
+    assert_eq!(ranges(&mirror, 8), eight);
+    // The preview writes its own rows, and the others keep their contents.
+    state.mark_ff_vs_dirty(ALL_DIRTY).unwrap();
+    assert_eq!(state.refresh(&key(true, 0x0F), &mut mirror), Ok(63));
+    assert_eq!(ranges(&mirror, 8), eight);
+}

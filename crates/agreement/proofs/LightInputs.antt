@@ -126,7 +126,7 @@ module _ {s : FfState} {a : AbstractState} (v : Valid s) (g : Agrees s a) where
 
   pub resolved-agrees : let r = resolveActiveLights s 8 in take (r .len) (r .lights) ≡ compacted a
   unfolding resolveActiveLights
-  resolved-agrees = listed-front (activeLights s) ∙ compacted-agrees
+  resolved-agrees = listed-front 8 (activeLights s) ∙ compacted-agrees
 
   pub compacted-masks : compactedLightMasks s ≡ record { active = compactedMask a anyKind; directional = compactedMask a isDirectional; spot = compactedMask a isSpot }
   unfolding compactedLightMasks masksOf compactedMask

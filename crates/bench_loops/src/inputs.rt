@@ -43,6 +43,7 @@ pub fn full_key() -> FfVsKey {
         lighting_enabled: true,
         specular_enable: true,
         vertex_blend_indexed: true,
+        preview: false,
         light_active_mask: 0xFF,
         fog_mode: 0,
         vertex_blend_count: 1,

@@ -14,12 +14,13 @@ pub extern "C" fn ff_fill_wv_section(
     lighting_enabled: u8,
     specular_enable: u8,
     vertex_blend_indexed: u8,
+    preview: u8,
     light_active_mask: u8,
     fog_mode: u8,
     vertex_blend_count: u8,
     dst: &mut [u8],
 ) -> u32
-    ensures { λ r. ⌜ answer r (now (dst .exit)) ≡ ffFillSection Wv (now (image .entry)) (keyOf «has_rhw» «lighting_enabled» «specular_enable» «vertex_blend_indexed» «light_active_mask» «fog_mode» «vertex_blend_count») (now (dst .entry)) ⌝ }
+    ensures { λ r. ⌜ answer r (now (dst .exit)) ≡ ffFillSection Wv (now (image .entry)) (keyOf «has_rhw» «lighting_enabled» «specular_enable» «vertex_blend_indexed» preview «light_active_mask» «fog_mode» «vertex_blend_count») (now (dst .entry)) ⌝ }
 {
     fill_section(
         Section::Wv,
@@ -28,6 +29,7 @@ pub extern "C" fn ff_fill_wv_section(
         lighting_enabled,
         specular_enable,
         vertex_blend_indexed,
+        preview,
         light_active_mask,
         fog_mode,
         vertex_blend_count,
@@ -42,12 +44,13 @@ pub extern "C" fn ff_fill_proj_section(
     lighting_enabled: u8,
     specular_enable: u8,
     vertex_blend_indexed: u8,
+    preview: u8,
     light_active_mask: u8,
     fog_mode: u8,
     vertex_blend_count: u8,
     dst: &mut [u8],
 ) -> u32
-    ensures { λ r. ⌜ answer r (now (dst .exit)) ≡ ffFillSection Proj (now (image .entry)) (keyOf «has_rhw» «lighting_enabled» «specular_enable» «vertex_blend_indexed» «light_active_mask» «fog_mode» «vertex_blend_count») (now (dst .entry)) ⌝ }
+    ensures { λ r. ⌜ answer r (now (dst .exit)) ≡ ffFillSection Proj (now (image .entry)) (keyOf «has_rhw» «lighting_enabled» «specular_enable» «vertex_blend_indexed» preview «light_active_mask» «fog_mode» «vertex_blend_count») (now (dst .entry)) ⌝ }
 {
     fill_section(
         Section::Proj,
@@ -56,6 +59,7 @@ pub extern "C" fn ff_fill_proj_section(
         lighting_enabled,
         specular_enable,
         vertex_blend_indexed,
+        preview,
         light_active_mask,
         fog_mode,
         vertex_blend_count,
@@ -70,12 +74,13 @@ pub extern "C" fn ff_fill_material_section(
     lighting_enabled: u8,
     specular_enable: u8,
     vertex_blend_indexed: u8,
+    preview: u8,
     light_active_mask: u8,
     fog_mode: u8,
     vertex_blend_count: u8,
     dst: &mut [u8],
 ) -> u32
-    ensures { λ r. ⌜ answer r (now (dst .exit)) ≡ ffFillSection Material (now (image .entry)) (keyOf «has_rhw» «lighting_enabled» «specular_enable» «vertex_blend_indexed» «light_active_mask» «fog_mode» «vertex_blend_count») (now (dst .entry)) ⌝ }
+    ensures { λ r. ⌜ answer r (now (dst .exit)) ≡ ffFillSection Material (now (image .entry)) (keyOf «has_rhw» «lighting_enabled» «specular_enable» «vertex_blend_indexed» preview «light_active_mask» «fog_mode» «vertex_blend_count») (now (dst .entry)) ⌝ }
 {
     fill_section(
         Section::Material,
@@ -84,6 +89,7 @@ pub extern "C" fn ff_fill_material_section(
         lighting_enabled,
         specular_enable,
         vertex_blend_indexed,
+        preview,
         light_active_mask,
         fog_mode,
         vertex_blend_count,
@@ -98,12 +104,13 @@ pub extern "C" fn ff_fill_lights_section(
     lighting_enabled: u8,
     specular_enable: u8,
     vertex_blend_indexed: u8,
+    preview: u8,
     light_active_mask: u8,
     fog_mode: u8,
     vertex_blend_count: u8,
     dst: &mut [u8],
 ) -> u32
-    ensures { λ r. ⌜ answer r (now (dst .exit)) ≡ ffFillSection Lights (now (image .entry)) (keyOf «has_rhw» «lighting_enabled» «specular_enable» «vertex_blend_indexed» «light_active_mask» «fog_mode» «vertex_blend_count») (now (dst .entry)) ⌝ }
+    ensures { λ r. ⌜ answer r (now (dst .exit)) ≡ ffFillSection Lights (now (image .entry)) (keyOf «has_rhw» «lighting_enabled» «specular_enable» «vertex_blend_indexed» preview «light_active_mask» «fog_mode» «vertex_blend_count») (now (dst .entry)) ⌝ }
 {
     fill_section(
         Section::Lights,
@@ -112,6 +119,7 @@ pub extern "C" fn ff_fill_lights_section(
         lighting_enabled,
         specular_enable,
         vertex_blend_indexed,
+        preview,
         light_active_mask,
         fog_mode,
         vertex_blend_count,
@@ -126,12 +134,13 @@ pub extern "C" fn ff_fill_palette_section(
     lighting_enabled: u8,
     specular_enable: u8,
     vertex_blend_indexed: u8,
+    preview: u8,
     light_active_mask: u8,
     fog_mode: u8,
     vertex_blend_count: u8,
     dst: &mut [u8],
 ) -> u32
-    ensures { λ r. ⌜ answer r (now (dst .exit)) ≡ ffFillSection Palette (now (image .entry)) (keyOf «has_rhw» «lighting_enabled» «specular_enable» «vertex_blend_indexed» «light_active_mask» «fog_mode» «vertex_blend_count») (now (dst .entry)) ⌝ }
+    ensures { λ r. ⌜ answer r (now (dst .exit)) ≡ ffFillSection Palette (now (image .entry)) (keyOf «has_rhw» «lighting_enabled» «specular_enable» «vertex_blend_indexed» preview «light_active_mask» «fog_mode» «vertex_blend_count») (now (dst .entry)) ⌝ }
 {
     fill_section(
         Section::Palette,
@@ -140,6 +149,7 @@ pub extern "C" fn ff_fill_palette_section(
         lighting_enabled,
         specular_enable,
         vertex_blend_indexed,
+        preview,
         light_active_mask,
         fog_mode,
         vertex_blend_count,
@@ -154,12 +164,13 @@ pub extern "C" fn ff_fill_tt_section(
     lighting_enabled: u8,
     specular_enable: u8,
     vertex_blend_indexed: u8,
+    preview: u8,
     light_active_mask: u8,
     fog_mode: u8,
     vertex_blend_count: u8,
     dst: &mut [u8],
 ) -> u32
-    ensures { λ r. ⌜ answer r (now (dst .exit)) ≡ ffFillSection Tt (now (image .entry)) (keyOf «has_rhw» «lighting_enabled» «specular_enable» «vertex_blend_indexed» «light_active_mask» «fog_mode» «vertex_blend_count») (now (dst .entry)) ⌝ }
+    ensures { λ r. ⌜ answer r (now (dst .exit)) ≡ ffFillSection Tt (now (image .entry)) (keyOf «has_rhw» «lighting_enabled» «specular_enable» «vertex_blend_indexed» preview «light_active_mask» «fog_mode» «vertex_blend_count») (now (dst .entry)) ⌝ }
 {
     fill_section(
         Section::Tt,
@@ -168,6 +179,7 @@ pub extern "C" fn ff_fill_tt_section(
         lighting_enabled,
         specular_enable,
         vertex_blend_indexed,
+        preview,
         light_active_mask,
         fog_mode,
         vertex_blend_count,

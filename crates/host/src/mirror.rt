@@ -11,13 +11,14 @@ pub extern "C" fn ff_refresh(
     lighting_enabled: u8,
     specular_enable: u8,
     vertex_blend_indexed: u8,
+    preview: u8,
     light_active_mask: u8,
     fog_mode: u8,
     vertex_blend_count: u8,
     mirror: &mut [u8],
     out: &mut u32,
 ) -> u32
-    ensures { λ r. ⌜ answer r (left (now (image .exit)) (now (mirror .exit)) (now (out .exit))) ≡ ffRefresh (now (image .entry)) (keyOf «has_rhw» «lighting_enabled» «specular_enable» «vertex_blend_indexed» «light_active_mask» «fog_mode» «vertex_blend_count») (now (mirror .entry)) (now (out .entry)) ⌝ }
+    ensures { λ r. ⌜ answer r (left (now (image .exit)) (now (mirror .exit)) (now (out .exit))) ≡ ffRefresh (now (image .entry)) (keyOf «has_rhw» «lighting_enabled» «specular_enable» «vertex_blend_indexed» preview «light_active_mask» «fog_mode» «vertex_blend_count») (now (mirror .entry)) (now (out .entry)) ⌝ }
 {
     refresh_calls::refresh(
         image,
@@ -25,6 +26,7 @@ pub extern "C" fn ff_refresh(
         lighting_enabled,
         specular_enable,
         vertex_blend_indexed,
+        preview,
         light_active_mask,
         fog_mode,
         vertex_blend_count,

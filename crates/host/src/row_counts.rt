@@ -15,12 +15,13 @@ pub extern "C" fn ff_vs_row_count(
     lighting_enabled: u8,
     specular_enable: u8,
     vertex_blend_indexed: u8,
+    preview: u8,
     light_active_mask: u8,
     fog_mode: u8,
     vertex_blend_count: u8,
     out: &mut u32,
 ) -> u32
-    ensures { λ r. ⌜ answer r (now (out .exit)) ≡ hostRowCount (now (image .entry)) (keyOf «has_rhw» «lighting_enabled» «specular_enable» «vertex_blend_indexed» «light_active_mask» «fog_mode» «vertex_blend_count») (now (out .entry)) ⌝ }
+    ensures { λ r. ⌜ answer r (now (out .exit)) ≡ hostRowCount (now (image .entry)) (keyOf «has_rhw» «lighting_enabled» «specular_enable» «vertex_blend_indexed» preview «light_active_mask» «fog_mode» «vertex_blend_count») (now (out .entry)) ⌝ }
 {
     vs_row_count(
         image,
@@ -28,6 +29,7 @@ pub extern "C" fn ff_vs_row_count(
         lighting_enabled,
         specular_enable,
         vertex_blend_indexed,
+        preview,
         light_active_mask,
         fog_mode,
         vertex_blend_count,
@@ -42,12 +44,13 @@ pub extern "C" fn ff_wv_section_rows(
     lighting_enabled: u8,
     specular_enable: u8,
     vertex_blend_indexed: u8,
+    preview: u8,
     light_active_mask: u8,
     fog_mode: u8,
     vertex_blend_count: u8,
     out: &mut u32,
 ) -> u32
-    ensures { λ r. ⌜ answer r (now (out .exit)) ≡ ffSectionRows Wv (now (image .entry)) (keyOf «has_rhw» «lighting_enabled» «specular_enable» «vertex_blend_indexed» «light_active_mask» «fog_mode» «vertex_blend_count») (now (out .entry)) ⌝ }
+    ensures { λ r. ⌜ answer r (now (out .exit)) ≡ ffSectionRows Wv (now (image .entry)) (keyOf «has_rhw» «lighting_enabled» «specular_enable» «vertex_blend_indexed» preview «light_active_mask» «fog_mode» «vertex_blend_count») (now (out .entry)) ⌝ }
 {
     section_rows(
         Section::Wv,
@@ -56,6 +59,7 @@ pub extern "C" fn ff_wv_section_rows(
         lighting_enabled,
         specular_enable,
         vertex_blend_indexed,
+        preview,
         light_active_mask,
         fog_mode,
         vertex_blend_count,
@@ -70,12 +74,13 @@ pub extern "C" fn ff_proj_section_rows(
     lighting_enabled: u8,
     specular_enable: u8,
     vertex_blend_indexed: u8,
+    preview: u8,
     light_active_mask: u8,
     fog_mode: u8,
     vertex_blend_count: u8,
     out: &mut u32,
 ) -> u32
-    ensures { λ r. ⌜ answer r (now (out .exit)) ≡ ffSectionRows Proj (now (image .entry)) (keyOf «has_rhw» «lighting_enabled» «specular_enable» «vertex_blend_indexed» «light_active_mask» «fog_mode» «vertex_blend_count») (now (out .entry)) ⌝ }
+    ensures { λ r. ⌜ answer r (now (out .exit)) ≡ ffSectionRows Proj (now (image .entry)) (keyOf «has_rhw» «lighting_enabled» «specular_enable» «vertex_blend_indexed» preview «light_active_mask» «fog_mode» «vertex_blend_count») (now (out .entry)) ⌝ }
 {
     section_rows(
         Section::Proj,
@@ -84,6 +89,7 @@ pub extern "C" fn ff_proj_section_rows(
         lighting_enabled,
         specular_enable,
         vertex_blend_indexed,
+        preview,
         light_active_mask,
         fog_mode,
         vertex_blend_count,
@@ -98,12 +104,13 @@ pub extern "C" fn ff_material_section_rows(
     lighting_enabled: u8,
     specular_enable: u8,
     vertex_blend_indexed: u8,
+    preview: u8,
     light_active_mask: u8,
     fog_mode: u8,
     vertex_blend_count: u8,
     out: &mut u32,
 ) -> u32
-    ensures { λ r. ⌜ answer r (now (out .exit)) ≡ ffSectionRows Material (now (image .entry)) (keyOf «has_rhw» «lighting_enabled» «specular_enable» «vertex_blend_indexed» «light_active_mask» «fog_mode» «vertex_blend_count») (now (out .entry)) ⌝ }
+    ensures { λ r. ⌜ answer r (now (out .exit)) ≡ ffSectionRows Material (now (image .entry)) (keyOf «has_rhw» «lighting_enabled» «specular_enable» «vertex_blend_indexed» preview «light_active_mask» «fog_mode» «vertex_blend_count») (now (out .entry)) ⌝ }
 {
     section_rows(
         Section::Material,
@@ -112,6 +119,7 @@ pub extern "C" fn ff_material_section_rows(
         lighting_enabled,
         specular_enable,
         vertex_blend_indexed,
+        preview,
         light_active_mask,
         fog_mode,
         vertex_blend_count,
@@ -126,12 +134,13 @@ pub extern "C" fn ff_lights_section_rows(
     lighting_enabled: u8,
     specular_enable: u8,
     vertex_blend_indexed: u8,
+    preview: u8,
     light_active_mask: u8,
     fog_mode: u8,
     vertex_blend_count: u8,
     out: &mut u32,
 ) -> u32
-    ensures { λ r. ⌜ answer r (now (out .exit)) ≡ ffSectionRows Lights (now (image .entry)) (keyOf «has_rhw» «lighting_enabled» «specular_enable» «vertex_blend_indexed» «light_active_mask» «fog_mode» «vertex_blend_count») (now (out .entry)) ⌝ }
+    ensures { λ r. ⌜ answer r (now (out .exit)) ≡ ffSectionRows Lights (now (image .entry)) (keyOf «has_rhw» «lighting_enabled» «specular_enable» «vertex_blend_indexed» preview «light_active_mask» «fog_mode» «vertex_blend_count») (now (out .entry)) ⌝ }
 {
     section_rows(
         Section::Lights,
@@ -140,6 +149,7 @@ pub extern "C" fn ff_lights_section_rows(
         lighting_enabled,
         specular_enable,
         vertex_blend_indexed,
+        preview,
         light_active_mask,
         fog_mode,
         vertex_blend_count,
@@ -154,12 +164,13 @@ pub extern "C" fn ff_palette_section_rows(
     lighting_enabled: u8,
     specular_enable: u8,
     vertex_blend_indexed: u8,
+    preview: u8,
     light_active_mask: u8,
     fog_mode: u8,
     vertex_blend_count: u8,
     out: &mut u32,
 ) -> u32
-    ensures { λ r. ⌜ answer r (now (out .exit)) ≡ ffSectionRows Palette (now (image .entry)) (keyOf «has_rhw» «lighting_enabled» «specular_enable» «vertex_blend_indexed» «light_active_mask» «fog_mode» «vertex_blend_count») (now (out .entry)) ⌝ }
+    ensures { λ r. ⌜ answer r (now (out .exit)) ≡ ffSectionRows Palette (now (image .entry)) (keyOf «has_rhw» «lighting_enabled» «specular_enable» «vertex_blend_indexed» preview «light_active_mask» «fog_mode» «vertex_blend_count») (now (out .entry)) ⌝ }
 {
     section_rows(
         Section::Palette,
@@ -168,6 +179,7 @@ pub extern "C" fn ff_palette_section_rows(
         lighting_enabled,
         specular_enable,
         vertex_blend_indexed,
+        preview,
         light_active_mask,
         fog_mode,
         vertex_blend_count,
@@ -182,12 +194,13 @@ pub extern "C" fn ff_tt_section_rows(
     lighting_enabled: u8,
     specular_enable: u8,
     vertex_blend_indexed: u8,
+    preview: u8,
     light_active_mask: u8,
     fog_mode: u8,
     vertex_blend_count: u8,
     out: &mut u32,
 ) -> u32
-    ensures { λ r. ⌜ answer r (now (out .exit)) ≡ ffSectionRows Tt (now (image .entry)) (keyOf «has_rhw» «lighting_enabled» «specular_enable» «vertex_blend_indexed» «light_active_mask» «fog_mode» «vertex_blend_count») (now (out .entry)) ⌝ }
+    ensures { λ r. ⌜ answer r (now (out .exit)) ≡ ffSectionRows Tt (now (image .entry)) (keyOf «has_rhw» «lighting_enabled» «specular_enable» «vertex_blend_indexed» preview «light_active_mask» «fog_mode» «vertex_blend_count») (now (out .entry)) ⌝ }
 {
     section_rows(
         Section::Tt,
@@ -196,6 +209,7 @@ pub extern "C" fn ff_tt_section_rows(
         lighting_enabled,
         specular_enable,
         vertex_blend_indexed,
+        preview,
         light_active_mask,
         fog_mode,
         vertex_blend_count,

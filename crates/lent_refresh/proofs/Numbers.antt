@@ -34,7 +34,7 @@ whole l h none same = cond l (cond h 8 (cond (none || same) 0 5)) 4
 
 module _ (s : FfState) (k : FfVsKey) where
   abbrev packed : List D3DLIGHT9
-  packed = partLights (s .lights) (s .«light_set_mask») (s .«light_enabled») (s .«overflow_lights») (s .«overflow_count»)
+  packed = partLights k (s .lights) (s .«light_set_mask») (s .«light_enabled») (s .«overflow_lights») (s .«overflow_count»)
 
   abbrev same : Bool
   same = eqb (k .«light_active_mask») (masksOf packed .active)

@@ -9,6 +9,7 @@ use lib.ListN.{getD, take}
 use Rattle.lemmas.proofs.Tests.{never}
 use Rattle.codec.specs.Put.{put}
 use Rattle.codec.proofs.Put.{put-none}
+use Rattle.sections.specs.Key.{lightLimit}
 use Rattle.sections.specs.Sections.{sections, hasSection}
 use Rattle.sections.specs.declared.key.FfVsKey.{FfVsKey}
 use Rattle.sections.specs.declared.sections.Section.the-variants.{Lights, Palette}
@@ -58,11 +59,11 @@ module _ (s : FfState) (k : FfVsKey) (bits : ℕ) where
   Due = hasSection bits Lights && not (eqb (k .«light_active_mask») 0)
 
   pub lights-put : (m m₁ : List Float) → Due ≡ true
-      → m₁ ≡ put 60 (floats (lightsRows (s .view) (partLights (s .lights) (s .«light_set_mask») (s .«light_enabled») (s .«overflow_lights») (s .«overflow_count»)))) m → m₁ ≡ writtenSection Lights bits s k m
+      → m₁ ≡ put 60 (floats (lightsRows (s .view) (partLights k (s .lights) (s .«light_set_mask») (s .«light_enabled») (s .«overflow_lights») (s .«overflow_count»)))) m → m₁ ≡ writtenSection Lights bits s k m
   unfolding writtenSection packedRows activeLights lightActiveMask
   lights-put m m₁ on e = go (hasSection bits Lights) (eqb (k .«light_active_mask») 0) on
     where
-      go : (dirty none : Bool) → (dirty && not none) ≡ true → m₁ ≡ cond dirty (put 60 (floats (cond none [] (lightsRows (s .view) (take 8 (activeLights s))))) m) m
+      go : (dirty none : Bool) → (dirty && not none) ≡ true → m₁ ≡ cond dirty (put 60 (floats (cond none [] (lightsRows (s .view) (take (lightLimit k) (activeLights s))))) m) m
       go true false p = e
       go true true p = never (sym p)
       go false none p = never (sym p)
@@ -71,7 +72,7 @@ module _ (s : FfState) (k : FfVsKey) (bits : ℕ) where
   unfolding writtenSection packedRows floats
   lights-not m off = go (hasSection bits Lights) (eqb (k .«light_active_mask») 0) off
     where
-      go : (dirty none : Bool) → (dirty && not none) ≡ false → m ≡ cond dirty (put 60 (floats (cond none [] (lightsRows (s .view) (take 8 (activeLights s))))) m) m
+      go : (dirty none : Bool) → (dirty && not none) ≡ false → m ≡ cond dirty (put 60 (floats (cond none [] (lightsRows (s .view) (take (lightLimit k) (activeLights s))))) m) m
       go true true p = sym (put-none 60 m)
       go true false p = never p
       go false none p = refl

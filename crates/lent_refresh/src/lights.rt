@@ -16,6 +16,7 @@ pub fn write_lights_of(s: &mut FfState, bits: u32, key: FfVsKey, mirror: &mut [f
     if lights_due(bits, key) {
         put_lights(
             s.view,
+            key,
             s.lights,
             s.light_set_mask,
             s.light_enabled,

@@ -1,6 +1,6 @@
 -- Pushing lights one after another, up to a limit, gives the list of the first so many. Assumes nothing.
 use Prim.Native.Nat.{ℕ, suc, _+_, _-_, _*_, _^_, _≤_, _<_, zero-le}
-use native.Mathlib.Nat.{le-of-lt, le-refl, lt-of-not-le, pow-suc, min-le-left}
+use native.Mathlib.Nat.{le-of-lt, le-refl, le-trans, lt-of-not-le, pow-suc, min-le-left}
 use native.Mathlib.Numerals.{add-one}
 use native.Mathlib.Omega.{arith}
 use mathlib.Core.Path.{_≡_, refl, sym, ap, ap₂, _∙_}
@@ -144,11 +144,15 @@ noLight =
     let v : D3DVECTOR = record { x = nan; y = nan; z = nan } in
     record { «type_» = 0; diffuse = c; specular = c; ambient = c; position = v; direction = v; range = nan; falloff = nan; attenuation0 = nan; attenuation1 = nan; attenuation2 = nan; theta = nan; phi = nan }
 
--- a listed list, read back
-pub listed-len : (ls : List D3DLIGHT9) → listed 8 ls .len ≤ 8
-unfolding listed
-listed-len ls = simp length-take (min-le-left 8 (length ls))
+-- ---- a listed list, read back
 
-pub listed-front : (ls : List D3DLIGHT9) → take (listed 8 ls .len) (listed 8 ls .lights) ≡ take 8 ls
+pub few : (limit : ℕ) → limit ≤ 8 → (ls : List D3DLIGHT9) → length (take limit ls) ≤ 8
+few limit h ls = le-trans (simp length-take (min-le-left limit (length ls))) h
+
+pub listed-len : (limit : ℕ) → limit ≤ 8 → (ls : List D3DLIGHT9) → listed limit ls .len ≤ 8
 unfolding listed
-listed-front ls = take-append-seam (take 8 ls) (replicate (8 - length (take 8 ls)) defaultLight)
+listed-len limit h ls = few limit h ls
+
+pub listed-front : (limit : ℕ) (ls : List D3DLIGHT9) → take (listed limit ls .len) (listed limit ls .lights) ≡ take limit ls
+unfolding listed
+listed-front limit ls = take-append-seam (take limit ls) (replicate (8 - length (take limit ls)) defaultLight)

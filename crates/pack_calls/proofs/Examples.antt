@@ -1,4 +1,4 @@
--- Document 01's row counts P1 to P6 as the host asks for them, on any image: computed from the seven numbers, so that no two of them can be exchanged in code and definition alike.
+-- Document 01's row counts P1 to P6 as the host asks for them, on any image: and the limit of lights: computed from the eight numbers, so that no two of them can be exchanged in code and definition alike.
 -- Assumes nothing.
 use Prim.Native.Nat.{ℕ}
 use mathlib.Core.Path.{_≡_, refl, sym}
@@ -13,6 +13,7 @@ use Rattle.calls.proofs.Calls.{reading-done}
 use Rattle.sections.specs.Counts.{places, lightCount, paletteMatrices, paletteCount, textureCount}
 use Rattle.sections.specs.RowCount as RowCount
 use Rattle.sections.specs.RowCount.{lightingReach, textureReach, paletteReach}
+use Rattle.sections.specs.Key.{limitOf, lightLimit}
 use Rattle.sections.specs.declared.key.FfVsKey.{FfVsKey}
 use Rattle.pack_calls.specs.Key.{keyOf}
 use Rattle.pack_calls.specs.RowCounts.{hostRowCount}
@@ -24,20 +25,21 @@ record Case : Type 0 where
 abbrev case : FfVsKey → ℕ → Case
 case k n = record { key = k; rows = n }
 
--- HAS_RHW, LIGHTING_ENABLED, SPECULAR_ENABLE, VERTEX_BLEND_INDEXED, light_active_mask, fog_mode, vertex_blend_count: P1 to P6, a mask with a gap,
--- and a fog mode, which no row follows from. A flag is set by any number but 0.
+-- HAS_RHW, LIGHTING_ENABLED, SPECULAR_ENABLE, VERTEX_BLEND_INDEXED, preview, light_active_mask, fog_mode, vertex_blend_count: P1 to P6, a mask with a gap,
+-- a fog mode and a preview of eight places, which no row follows from. A flag is set by any number but 0.
 cases : List Case
 cases =
-    case (keyOf 0 0 0 0 0 0 0) 11
-    ∷ case (keyOf 0 1 0 0 0 0 0) 14
-    ∷ case (keyOf 0 2 3 0 0 0 0) 15
-    ∷ case (keyOf 0 1 0 0 1 0 0) 21
-    ∷ case (keyOf 0 255 0 0 0xFF 0 0) 63
-    ∷ case (keyOf 0 0 0 4 0 0 1) 255
-    ∷ case (keyOf 0 0 0 0 0 0 255) 1115
-    ∷ case (keyOf 2 0 0 0 0 0 0) 1
-    ∷ case (keyOf 0 1 0 0 4 0 0) 33
-    ∷ case (keyOf 0 1 0 0 0 255 0) 14
+    case (keyOf 0 0 0 0 0 0 0 0) 11
+    ∷ case (keyOf 0 1 0 0 0 0 0 0) 14
+    ∷ case (keyOf 0 2 3 0 0 0 0 0) 15
+    ∷ case (keyOf 0 1 0 0 0 1 0 0) 21
+    ∷ case (keyOf 0 255 0 0 0 0xFF 0 0) 63
+    ∷ case (keyOf 0 0 0 4 0 0 0 1) 255
+    ∷ case (keyOf 0 0 0 0 0 0 0 255) 1115
+    ∷ case (keyOf 2 0 0 0 0 0 0 0) 1
+    ∷ case (keyOf 0 1 0 0 0 4 0 0) 33
+    ∷ case (keyOf 0 1 0 0 0 0 255 0) 14
+    ∷ case (keyOf 0 1 0 0 1 0xFF 0 0) 63
     ∷ []
 
 abbrev right : Case → Bool
@@ -50,6 +52,11 @@ every (c ∷ cs) = right c && every cs
 counts-right : T (every cases)
 unfolding cases RowCount.ffVsRowCount lightingReach textureReach paletteReach lightCount paletteCount paletteMatrices textureCount places leadingZeros
 counts-right = tt
+
+-- the fifth number alone is the preview's
+pub limits-right : (lightLimit (keyOf 0 0 0 0 2 0 0 0) ≡ 4) × (lightLimit (keyOf 1 1 1 1 0 0xFF 1 1) ≡ 8)
+unfolding limitOf
+limits-right = (refl, refl)
 
 -- what the host is answered, whatever the image and the lent number
 module _ (image : List ℕ) (h : refused image ≡ false) (out : ℕ) where

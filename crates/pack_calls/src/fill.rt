@@ -65,7 +65,7 @@ fn fill_keyed(section: Section, image: &[u8], key: FfVsKey, dst: &mut [u8]) -> u
     fill_bytes(section, s, key, &mut floats[..n], dst)
 }
 
-// The key as seven numbers.
+// The key as eight numbers.
 pub fn fill_section(
     section: Section,
     image: &[u8],
@@ -73,18 +73,20 @@ pub fn fill_section(
     lighting_enabled: u8,
     specular_enable: u8,
     vertex_blend_indexed: u8,
+    preview: u8,
     light_active_mask: u8,
     fog_mode: u8,
     vertex_blend_count: u8,
     dst: &mut [u8],
 ) -> u32
-    ensures { λ r. ⌜ answer r (now (dst .exit)) ≡ ffFillSection section (now (image .entry)) (keyOf «has_rhw» «lighting_enabled» «specular_enable» «vertex_blend_indexed» «light_active_mask» «fog_mode» «vertex_blend_count») (now (dst .entry)) ⌝ }
+    ensures { λ r. ⌜ answer r (now (dst .exit)) ≡ ffFillSection section (now (image .entry)) (keyOf «has_rhw» «lighting_enabled» «specular_enable» «vertex_blend_indexed» preview «light_active_mask» «fog_mode» «vertex_blend_count») (now (dst .entry)) ⌝ }
 {
     let key = key_of(
         has_rhw,
         lighting_enabled,
         specular_enable,
         vertex_blend_indexed,
+        preview,
         light_active_mask,
         fog_mode,
         vertex_blend_count,

@@ -32,7 +32,7 @@ fn count_keyed(image: &[u8], key: FfVsKey, out: &mut u32) -> u32
     0
 }
 
-// The key as seven numbers.
+// The key as eight numbers.
 pub fn section_rows(
     section: Section,
     image: &[u8],
@@ -40,18 +40,20 @@ pub fn section_rows(
     lighting_enabled: u8,
     specular_enable: u8,
     vertex_blend_indexed: u8,
+    preview: u8,
     light_active_mask: u8,
     fog_mode: u8,
     vertex_blend_count: u8,
     out: &mut u32,
 ) -> u32
-    ensures { λ r. ⌜ answer r (now (out .exit)) ≡ ffSectionRows section (now (image .entry)) (keyOf «has_rhw» «lighting_enabled» «specular_enable» «vertex_blend_indexed» «light_active_mask» «fog_mode» «vertex_blend_count») (now (out .entry)) ⌝ }
+    ensures { λ r. ⌜ answer r (now (out .exit)) ≡ ffSectionRows section (now (image .entry)) (keyOf «has_rhw» «lighting_enabled» «specular_enable» «vertex_blend_indexed» preview «light_active_mask» «fog_mode» «vertex_blend_count») (now (out .entry)) ⌝ }
 {
     let key = key_of(
         has_rhw,
         lighting_enabled,
         specular_enable,
         vertex_blend_indexed,
+        preview,
         light_active_mask,
         fog_mode,
         vertex_blend_count,
@@ -65,18 +67,20 @@ pub fn vs_row_count(
     lighting_enabled: u8,
     specular_enable: u8,
     vertex_blend_indexed: u8,
+    preview: u8,
     light_active_mask: u8,
     fog_mode: u8,
     vertex_blend_count: u8,
     out: &mut u32,
 ) -> u32
-    ensures { λ r. ⌜ answer r (now (out .exit)) ≡ hostRowCount (now (image .entry)) (keyOf «has_rhw» «lighting_enabled» «specular_enable» «vertex_blend_indexed» «light_active_mask» «fog_mode» «vertex_blend_count») (now (out .entry)) ⌝ }
+    ensures { λ r. ⌜ answer r (now (out .exit)) ≡ hostRowCount (now (image .entry)) (keyOf «has_rhw» «lighting_enabled» «specular_enable» «vertex_blend_indexed» preview «light_active_mask» «fog_mode» «vertex_blend_count») (now (out .entry)) ⌝ }
 {
     let key = key_of(
         has_rhw,
         lighting_enabled,
         specular_enable,
         vertex_blend_indexed,
+        preview,
         light_active_mask,
         fog_mode,
         vertex_blend_count,

@@ -21,8 +21,9 @@ use Rattle.light_rows.specs.Light.{lightsRows}
 use Rattle.sections.specs.Counts.{places, materialCount, lightCount, paletteMatrices, paletteCount}
 use Rattle.sections.specs.Key.{SameShape, lightLimit}
 use Rattle.sections.specs.Counts.{sectionRows}
+use Rattle.sections.proofs.Shape.{shape-limit}
 use Rattle.sections.specs.declared.key.FfVsKey.{FfVsKey}
-use Rattle.packing.specs.Inputs.{Inputs, packedRows, maskAccepted, inputsOf, packedLights}
+use Rattle.packing.specs.Inputs.{Inputs, packedRows, maskAccepted, inputsOf}
 use Rattle.packing.specs.Pack.{PackOutcome, packOutcome, packInputs, packSection, inputRows, stateCount}
 use Rattle.packing.specs.declared.answer.PackAnswer.the-variants.{Packed, WrongLength, WrongMask}
 
@@ -79,7 +80,8 @@ module _ {k l : FfVsKey} (e : SameShape k l) where
     shape-rows Wv = refl
     shape-rows Proj = refl
     shape-rows Material = ap₂ (λ (a b : Bool). materialRows a b (i .material)) (e .lighting-enabled) (e .specular-enable)
-    shape-rows Lights = ap (λ (m : ℕ). cond (eqb m 0) [] (lightsRows (i .view) (packedLights l i))) (e .light-active-mask)
+    shape-rows Lights =
+        ap₂ (λ (m n : ℕ). cond (eqb m 0) [] (lightsRows (i .view) (take n (i .lights)))) (e .light-active-mask) (shape-limit e)
     shape-rows Palette = ap (λ (n : ℕ). paletteRows (i .view) (take n (i .palette))) same-matrices
     shape-rows Tt = refl
 
@@ -88,7 +90,7 @@ module _ {k l : FfVsKey} (e : SameShape k l) where
     shape-accepted Wv = refl
     shape-accepted Proj = refl
     shape-accepted Material = refl
-    shape-accepted Lights = ap (λ (m : ℕ). eqb m 0 || eqb m (masksOf (packedLights l i) .active)) (e .light-active-mask)
+    shape-accepted Lights = ap₂ (λ (m n : ℕ). eqb m 0 || eqb m (masksOf (take n (i .lights)) .active)) (e .light-active-mask) (shape-limit e)
     shape-accepted Palette = refl
     shape-accepted Tt = refl
 

@@ -1,19 +1,19 @@
 -- A section's packed rows are as many as the table says, whenever its mask is accepted. Assumes nothing.
 use Prim.Native.Nat.{ℕ, _-_, _*_, _^_, _≤_, _<_}
-use native.Mathlib.Nat.{mul-comm, min-le-left}
+use native.Mathlib.Nat.{mul-comm}
 use native.Mathlib.Omega.{arith}
-use mathlib.Core.Path.{_≡_, refl, ap, _∙_}
+use mathlib.Core.Path.{_≡_, refl, sym, ap, _∙_}
 use mathlib.Core.Bool.{Bool, true, false, cond, _||_}
-use mathlib.Core.List.{List, []}
+use mathlib.Core.List.{[]}
 use lib.Count.{leadingZeros, leading-unique, leading-of-zero}
 use lib.Dec.{eqb}
-use lib.ListN.{length, take, length-take}
+use lib.ListN.{length, take}
 use lib.Pow.{pow-pos}
 use lib.Seq.{length-take-le}
 use borrow.Author.Tests.{eqb-true}
 use Rattle.d3d9_types.specs.declared.material.D3DMATERIAL9.{D3DMATERIAL9}
-use Rattle.d3d9_types.specs.declared.light.D3DLIGHT9.{D3DLIGHT9}
 use Rattle.light_table.specs.Active.{lowBits, masksOf}
+use Rattle.light_table.proofs.Compaction.{few}
 use Rattle.ff_state.specs.Valid.{Valid}
 use Rattle.ff_state.specs.declared.state.FfState.{FfState}
 use Rattle.sections.specs.declared.sections.Section.{Section}
@@ -24,8 +24,10 @@ use Rattle.rows.specs.Material.{materialRows}
 use Rattle.rows.proofs.Floats.{length-floats, length-rowsOf}
 use Rattle.light_rows.specs.Light.{lightRows, sixRows, lightsRows}
 use Rattle.sections.specs.Counts.{places, materialCount, lightCount, paletteMatrices, paletteCount, textureCount}
+use Rattle.sections.specs.Key.{lightLimit}
 use Rattle.sections.specs.declared.key.FfVsKey.{FfVsKey}
 use Rattle.sections.proofs.Bounds.{matrices-most}
+use Rattle.sections.proofs.Shape.{limit-small}
 use Rattle.packing.specs.Inputs.{Inputs, packedLights, packedRows, maskAccepted, inputsOf}
 use Rattle.packing.specs.Pack.{stateRows, inputRows, stateCount}
 
@@ -47,9 +49,6 @@ material-rows true true m = refl
 material-rows true false m = refl
 material-rows false sp m = refl
 
-pub few : (ls : List D3DLIGHT9) → length (take 8 ls) ≤ 8
-few ls = simp length-take (min-le-left 8 (length ls))
-
 -- what the key and the inputs have to be: u8 numbers, 256 world matrices, no texture stage
 pub record SizedInputs (k : FfVsKey) (i : Inputs) : Type 0 where
   pub count : k .«vertex_blend_count» < 256
@@ -59,7 +58,9 @@ pub record SizedInputs (k : FfVsKey) (i : Inputs) : Type 0 where
 module _ (k : FfVsKey) (i : Inputs) (z : SizedInputs k i) where
   pub lights-length : k .«light_active_mask» ≡ lowBits (length (packedLights k i)) → 6 * length (packedLights k i) ≡ lightCount k
   unfolding lightCount
-  lights-length e = rw (e, places-low (length (packedLights k i)) (few (i .lights))) (mul-comm 6 (length (packedLights k i)))
+  lights-length e =
+      let n : ℕ = length (packedLights k i) in
+      mul-comm 6 n ∙ ap (λ (m : ℕ). m * 6) (sym (ap places e ∙ places-low n (few (lightLimit k) (limit-small k) (i .lights))))
 
   lights-rows : (none : Bool) → eqb (k .«light_active_mask») 0 ≡ none → (none || eqb (k .«light_active_mask») (masksOf (packedLights k i) .active)) ≡ true
       → length (cond none [] (lightsRows (i .view) (packedLights k i))) ≡ lightCount k

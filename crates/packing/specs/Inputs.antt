@@ -32,7 +32,7 @@ pub record Inputs : Type 0 where
   -- the texture stages that are transformed
   pub textureMask : ℕ
 
--- the lights that are packed under a key
+-- The lights that are packed under a key. Document 02, T-01: "The preview list is the first four of the full one".
 abbrev pub packedLights : FfVsKey → Inputs → List D3DLIGHT9
 packedLights k i = take (lightLimit k) (i .lights)
 
@@ -45,7 +45,7 @@ packedRows Lights k i = cond (eqb (k .«light_active_mask») 0) [] (lightsRows (
 packedRows Palette k i = paletteRows (i .view) (take (paletteMatrices k) (i .palette))
 packedRows Tt k i = []
 
--- refused 5: "the light mask is not 0 and is not the compacted active mask"; only the lights' section looks at it
+-- refused 5: "the light mask is not 0 and is not the compacted active mask", which is "the mask under the caller's limit" (document 02, T-01); only the lights' section looks at it
 unfoldable pub maskAccepted : Section → FfVsKey → Inputs → Bool
 maskAccepted Lights k i = eqb (k .«light_active_mask») 0 || eqb (k .«light_active_mask») (masksOf (packedLights k i) .active)
 maskAccepted Wv k i = true

@@ -1,3 +1,4 @@
 pub mod Agreement
 pub mod Table
 mod Scene
+mod Preview

@@ -30,6 +30,7 @@ use Rattle.ff_state.specs.Lights.{setLightAt, flag, setLightEnabledAt}
 use Rattle.ff_state.specs.Active.{lightActiveMask, activeLights}
 use Rattle.ff_state.specs.declared.state.FfState.{FfState}
 use Rattle.sections.specs.declared.sections.Section.the-variants.{Wv, Proj, Material, Lights, Palette}
+use Rattle.sections.specs.Key.{limitOf}
 use Rattle.sections.specs.declared.key.FfVsKey.{FfVsKey}
 use Rattle.sections.specs.Counts.{places, materialCount, lightCount, paletteMatrices, paletteCount}
 use Rattle.rows.specs.Rows.{floats, rowsOf}
@@ -76,7 +77,7 @@ unfolding scene moved packed packSection packInputs packedRows maskAccepted floa
 material-right = refl
 
 lights-right : packed Lights scene key ≡ flat spotBits
-unfolding scene moved packed packSection packInputs packedRows maskAccepted floats lightCount places leadingZeros rowsOf lightsRows lightRows kindOf unitDirection lengthOf floored smallest coneOf spotScale halfCosine cosOf cosFolded folded polynomial horner fraction magnitude turn halfTurn quarterTurn larger sqrtOf rootOf nearestRoot floorRoot rootFrom viewTransformPoint viewTransformDir column row sumFrom add sub mul div rem neg lt isNan ofInt ofBits toBits activeLights lightActiveMask slotsFrom activeOverflow masksOf lowBits kindMask usedCount contributes setTransform changeAt slotOf placed setMaterial setLightAt setLightEnabledAt flag setSlot enableSlot defineSlot dirtied withBit hasBit freshState identity defaultLight zeroEntry zeroLight
+unfolding limitOf scene moved packed packSection packInputs packedRows maskAccepted floats lightCount places leadingZeros rowsOf lightsRows lightRows kindOf unitDirection lengthOf floored smallest coneOf spotScale halfCosine cosOf cosFolded folded polynomial horner fraction magnitude turn halfTurn quarterTurn larger sqrtOf rootOf nearestRoot floorRoot rootFrom viewTransformPoint viewTransformDir column row sumFrom add sub mul div rem neg lt isNan ofInt ofBits toBits activeLights lightActiveMask slotsFrom activeOverflow masksOf lowBits kindMask usedCount contributes setTransform changeAt slotOf placed setMaterial setLightAt setLightEnabledAt flag setSlot enableSlot defineSlot dirtied withBit hasBit freshState identity defaultLight zeroEntry zeroLight
 lights-right = refl
 
 palette-right : packed Palette scene key ≡ flat (worldViewBits ++ secondBits)

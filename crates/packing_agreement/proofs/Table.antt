@@ -36,6 +36,7 @@ use Rattle.light_rows.specs.Cone.{halfCosine, spotScale, coneOf}
 use Rattle.light_rows.specs.Light.{kindOf, lightRows, lightsRows}
 use Rattle.packing.specs.Inputs.{packedRows, maskAccepted}
 use Rattle.packing.specs.Pack.{packInputs, packSection}
+use Rattle.sections.specs.Key.{limitOf}
 use Rattle.sections.specs.Counts.{places, lightCount, paletteMatrices, paletteCount, textureCount}
 use Rattle.sections.specs.RowCount.{lightingReach, textureReach, paletteReach, ffVsRowCount}
 use Rattle.packing_agreement.specs.Cases.{p1, p2, p3, p4, p5, p6, p9, p10, p11, p12, packed, crowded, cases}
@@ -51,7 +52,7 @@ at (b ∷ bs) e zero h = and-eq-true-iff b (every bs) .0 e .0
 at (b ∷ bs) e (suc i) h = at bs (and-eq-true-iff b (every bs) .0 e .1) i (le-of-suc-le-suc h)
 
 all-hold : every cases ≡ true
-unfolding cases p1 p2 p3 p4 p5 p6 p7 p8 p9 p10 p11 p12 packed crowded packSection packInputs packedRows maskAccepted ffVsRowCount lightingReach textureReach paletteReach lightCount paletteCount paletteMatrices textureCount places leadingZeros floats rowsOf worldViewRows lightsRows lightRows kindOf unitDirection lengthOf floored smallest coneOf spotScale halfCosine cosOf cosFolded folded polynomial horner fraction magnitude turn halfTurn quarterTurn larger sqrtOf rootOf nearestRoot floorRoot rootFrom matMul dot transposed viewTransformPoint viewTransformDir column row sumFrom add sub mul div rem neg lt isNan ofInt ofBits toBits setTransform changeAt slotOf placed transformNumber setLightAt setLightEnabledAt flag changeEntry insertEntry replaceEntry found setSlot enableSlot defineSlot dirtied vsSourceLightInputs compactedLightMasks activeLights lightActiveMask slotsFrom activeOverflow masksOf lowBits kindMask fourBytes insertedAt findEntry lowerBound usedCount withBit hasBit contributes lightNumber zeroEntry zeroLight freshState identity defaultLight
+unfolding limitOf cases p1 p2 p3 p4 p5 p6 p7 p8 p9 p10 p11 p12 packed crowded packSection packInputs packedRows maskAccepted ffVsRowCount lightingReach textureReach paletteReach lightCount paletteCount paletteMatrices textureCount places leadingZeros floats rowsOf worldViewRows lightsRows lightRows kindOf unitDirection lengthOf floored smallest coneOf spotScale halfCosine cosOf cosFolded folded polynomial horner fraction magnitude turn halfTurn quarterTurn larger sqrtOf rootOf nearestRoot floorRoot rootFrom matMul dot transposed viewTransformPoint viewTransformDir column row sumFrom add sub mul div rem neg lt isNan ofInt ofBits toBits setTransform changeAt slotOf placed transformNumber setLightAt setLightEnabledAt flag changeEntry insertEntry replaceEntry found setSlot enableSlot defineSlot dirtied vsSourceLightInputs compactedLightMasks activeLights lightActiveMask slotsFrom activeOverflow masksOf lowBits kindMask fourBytes insertedAt findEntry lowerBound usedCount withBit hasBit contributes lightNumber zeroEntry zeroLight freshState identity defaultLight
 all-hold = refl
 
 -- P n is case n − 1 of the list

@@ -23,7 +23,7 @@ use Rattle.sections.specs.declared.key.FfVsKey.{FfVsKey}
 use Rattle.packing.specs.Pack.{packSection, stateCount}
 use Rattle.packing.specs.Inputs.{inputsOf}
 
--- HAS_RHW, LIGHTING_ENABLED, SPECULAR_ENABLE, VERTEX_BLEND_INDEXED, light_active_mask, vertex_blend_count
+-- HAS_RHW, LIGHTING_ENABLED, SPECULAR_ENABLE, VERTEX_BLEND_INDEXED, light_active_mask, vertex_blend_count; on the main screen
 abbrev pub keyOf : Bool → Bool → Bool → Bool → ℕ → ℕ → FfVsKey
 keyOf rhw lit specular indexed mask count =
     record {
@@ -31,6 +31,7 @@ keyOf rhw lit specular indexed mask count =
       «lighting_enabled» = lit;
       «specular_enable» = specular;
       «vertex_blend_indexed» = indexed;
+      preview = false;
       «light_active_mask» = mask;
       «fog_mode» = 0;
       «vertex_blend_count» = count;

@@ -13,6 +13,7 @@ use Rattle.d3d9_types.specs.declared.matrix.D3DMATRIX.{D3DMATRIX}
 use Rattle.d3d9_types.specs.declared.matrix.Row.{Row}
 use Rattle.light_table.specs.Active.{activeSlots, activeOverflow, masksOf}
 use Rattle.light_table.specs.declared.entry.OverflowLight.{OverflowLight}
+use Rattle.sections.specs.Key.{lightLimit}
 use Rattle.sections.specs.Sections.{hasSection}
 use Rattle.sections.specs.declared.key.FfVsKey.{FfVsKey}
 use Rattle.sections.specs.declared.sections.Section.{Section}
@@ -27,12 +28,12 @@ use Rattle.refresh.specs.Written.{firstFloat}
 unfoldable pub firstNumber : FfVsKey → ℕ → ℕ
 firstNumber k n = cond (eqb n 4460) (cond (k .«has_rhw») 8 (cond (eqb (k .«light_active_mask») 0) 0 5)) 4
 
--- the active lights, and the eight that are packed
+-- the active lights, and those that are packed under a key
 abbrev pub activeParts : List D3DLIGHT9 → ℕ → ℕ → List OverflowLight → ℕ → List D3DLIGHT9
 activeParts lights set enabled entries count = activeSlots (bitAnd set enabled) lights ++ activeOverflow (usedEntries entries count)
 
-abbrev pub partLights : List D3DLIGHT9 → ℕ → ℕ → List OverflowLight → ℕ → List D3DLIGHT9
-partLights lights set enabled entries count = take 8 (activeParts lights set enabled entries count)
+abbrev pub partLights : FfVsKey → List D3DLIGHT9 → ℕ → ℕ → List OverflowLight → ℕ → List D3DLIGHT9
+partLights k lights set enabled entries count = take (lightLimit k) (activeParts lights set enabled entries count)
 
 -- 5 unless the light mask is that of these lights
 unfoldable pub maskNumber : FfVsKey → List D3DLIGHT9 → ℕ

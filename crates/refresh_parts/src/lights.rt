@@ -5,6 +5,7 @@ ghost use lib.Dec.{eqb};
 ghost use lib.ListN.{length};
 ghost use Rattle.codec.specs.Put.{put};
 ghost use Rattle.light_table.specs.Active.{listed};
+ghost use Rattle.sections.specs.Key.{lightLimit};
 ghost use Rattle.sections.specs.Sections.{hasSection};
 ghost use Rattle.sections.specs.declared.sections.Section.the-variants.{Lights};
 ghost use Rattle.rows.specs.Rows.{floats};
@@ -19,18 +20,20 @@ use light_table::active_lights;
 use refresh::has_section;
 use sections::FfVsKey;
 use sections::Section;
+use sections::light_limit;
 
-// The first eight active lights, from what they are made from.
+// The active lights that are packed under a key, from what they are made from.
 pub fn active_of(
+    key: FfVsKey,
     lights: [D3DLIGHT9; 8],
     set: u8,
     enabled: u8,
     entries: [OverflowLight; 56],
     count: u16,
 ) -> ActiveLights
-    ensures { λ r. ⌜ r ≡ listed 8 (activeParts lights set enabled entries count) ⌝ }
+    ensures { λ r. ⌜ r ≡ listed (lightLimit key) (activeParts lights set enabled entries count) ⌝ }
 {
-    active_lights(lights, set & enabled, entries, count, 8)
+    active_lights(lights, set & enabled, entries, count, light_limit(key))
 }
 
 // Whether there are rows of lights to write.
@@ -45,6 +48,7 @@ pub fn lights_due(bits: u32, key: FfVsKey) -> bool
 
 pub fn put_lights(
     view: D3DMATRIX,
+    key: FfVsKey,
     lights: [D3DLIGHT9; 8],
     set: u8,
     enabled: u8,
@@ -53,9 +57,9 @@ pub fn put_lights(
     mirror: &mut [f32],
 )
     requires { ⌜ length (now mirror) ≡ 4460 ⌝ }
-    ensures { λ _. ⌜ now (mirror .exit) ≡ put 60 (floats (lightsRows view (partLights lights set enabled entries count))) (now (mirror .entry)) ⌝ }
+    ensures { λ _. ⌜ now (mirror .exit) ≡ put 60 (floats (lightsRows view (partLights key lights set enabled entries count))) (now (mirror .entry)) ⌝ }
 {
-    let list = active_of(lights, set, enabled, entries, count);
+    let list = active_of(key, lights, set, enabled, entries, count);
     let n = list.len;
     let active = list.lights;
     write_lights(&mut mirror[60..60 + 24 * n], view, active, n);

@@ -32,9 +32,9 @@ pub fn mask_number(
     entries: [OverflowLight; 56],
     count: u16,
 ) -> u32
-    ensures { λ r. ⌜ r ≡ maskNumber key (partLights lights set enabled entries count) ⌝ }
+    ensures { λ r. ⌜ r ≡ maskNumber key (partLights key lights set enabled entries count) ⌝ }
 {
-    let list = active_of(lights, set, enabled, entries, count);
+    let list = active_of(key, lights, set, enabled, entries, count);
     if key.light_active_mask == low_bits(list.len) {
         return 0;
     }

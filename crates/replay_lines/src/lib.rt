@@ -14,8 +14,8 @@
 //     I W*26        puts the words over the item's first 104 bytes, least byte first
 //     O AT BYTE     puts a byte over the image's byte at AT
 //     Y W W         puts the words over the key's eight bytes, least byte first: has_rhw,
-//                   lighting_enabled, specular_enable, vertex_blend_indexed, light_active_mask,
-//                   fog_mode, vertex_blend_count, and one that is not looked at
+//                   lighting_enabled, specular_enable, vertex_blend_indexed, preview,
+//                   light_active_mask, fog_mode, vertex_blend_count
 //     J AT W        puts the word over the mirror's four bytes at 4 * AT, least byte first
 //     F - LEN       calls::image_fresh, on the image's first LEN bytes
 //     X - LEN       calls::image_check, on the same

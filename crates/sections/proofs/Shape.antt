@@ -1,11 +1,12 @@
--- A key's shape leaves HAS_RHW and `fog_mode` free, and the lights that are packed under it are as many as its mask can name.
+-- A key's shape leaves HAS_RHW and `fog_mode` free and decides how many lights are packed, which are as many as the mask that the key can name.
 -- Assumes nothing.
-use Prim.Native.Nat.{ℕ}
-use mathlib.Core.Path.{_≡_, refl}
-use mathlib.Core.Bool.{Bool}
+use Prim.Native.Nat.{ℕ, _≤_}
+use native.Mathlib.Omega.{arith}
+use mathlib.Core.Path.{_≡_, refl, ap}
+use mathlib.Core.Bool.{Bool, true, false}
 use lib.Count.{leadingZeros}
 use Rattle.sections.specs.Counts.{places}
-use Rattle.sections.specs.Key.{SameShape, lightLimit}
+use Rattle.sections.specs.Key.{SameShape, limitOf, lightLimit}
 use Rattle.sections.specs.declared.key.FfVsKey.{FfVsKey}
 
 -- "Shape fields: all except HAS_RHW and `fog_mode`"
@@ -15,14 +16,34 @@ pub free-fields : (k : FfVsKey) (rhw : Bool) (fog : ℕ)
       «lighting_enabled» = k .«lighting_enabled»;
       «specular_enable» = k .«specular_enable»;
       «vertex_blend_indexed» = k .«vertex_blend_indexed»;
+      preview = k .preview;
       «light_active_mask» = k .«light_active_mask»;
       «fog_mode» = fog;
       «vertex_blend_count» = k .«vertex_blend_count»;
     })
 free-fields k rhw fog =
-    record { lighting-enabled = refl; specular-enable = refl; vertex-blend-indexed = refl; light-active-mask = refl; vertex-blend-count = refl }
+    record { lighting-enabled = refl; specular-enable = refl; vertex-blend-indexed = refl; preview = refl; light-active-mask = refl; vertex-blend-count = refl }
+
+-- "The limit joins the shape fields"
+pub shape-limit : {k l : FfVsKey} → SameShape k l → lightLimit k ≡ lightLimit l
+shape-limit e = ap limitOf (e .preview)
+
+-- ---- how many lights are packed
 
 -- "eight at most": the mask of eight lights is the greatest byte
-pub eight-at-most : (k : FfVsKey) → places 0xFF ≡ lightLimit k
-unfolding places leadingZeros
-eight-at-most k = refl
+pub eight-at-most : (k : FfVsKey) → k .preview ≡ false → lightLimit k ≡ places 0xFF
+unfolding limitOf places leadingZeros
+eight-at-most k e = rw e
+
+-- "The preview list is the first four of the full one, its mask has at most four bits"
+pub four-in-the-preview : (k : FfVsKey) → k .preview ≡ true → lightLimit k ≡ places 0x0F
+unfolding limitOf places leadingZeros
+four-in-the-preview k e = rw e
+
+pub limit-small : (k : FfVsKey) → lightLimit k ≤ 8
+unfolding limitOf
+limit-small k = small (k .preview)
+  where
+    small : (b : Bool) → limitOf b ≤ 8
+    small true = omega arith
+    small false = omega arith

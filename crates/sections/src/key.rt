@@ -8,6 +8,8 @@ pub struct FfVsKey {
     pub lighting_enabled: bool,
     pub specular_enable: bool,
     pub vertex_blend_indexed: bool,
+    // The song preview, of at most four lights (document 02, T-01).
+    pub preview: bool,
     pub light_active_mask: u8,
     pub fog_mode: u8,
     pub vertex_blend_count: u8,
@@ -20,5 +22,8 @@ pub const NO_TEXTURES: u8 = 0;
 pub fn light_limit(key: FfVsKey) -> usize
     ensures { λ r. ⌜ r ≡ lightLimit key ⌝ }
 {
+    if key.preview {
+        return 4;
+    }
     8
 }

@@ -28,6 +28,7 @@ use Rattle.directions.specs.Direction.{lengthOf, unitDirection}
 use Rattle.light_rows.specs.Cone.{coneOf}
 use Rattle.light_rows.specs.Light.{kindOf, lightRows, lightsRows}
 use Rattle.sections.specs.Counts.{paletteMatrices}
+use Rattle.sections.specs.Key.{limitOf}
 use Rattle.sections.specs.declared.key.FfVsKey.{FfVsKey}
 use Rattle.packing.specs.Inputs.{packedRows}
 use Rattle.d3d9_model.specs.State.{AbstractState, freshAbstract}
@@ -44,6 +45,7 @@ litKey =
       «lighting_enabled» = true;
       «specular_enable» = false;
       «vertex_blend_indexed» = false;
+      preview = false;
       «light_active_mask» = 1;
       «fog_mode» = 0;
       «vertex_blend_count» = 3;
@@ -54,7 +56,7 @@ oneLight = abstractStep freshAbstract (enableLight 0 true)
 
 -- "P2 lit 14 …": four rows from row 10 on; six rows a light; four a matrix
 pub wrong-rows : map (differing (replicate 4460 nan) litKey oneLight) (Wv ∷ Proj ∷ Material ∷ Lights ∷ Palette ∷ Tt ∷ []) ≡ 4 ∷ 4 ∷ 4 ∷ 6 ∷ 12 ∷ 0 ∷ []
-unfolding differing countBelow rowDiffers alikeAt alike abstractRows abstractInputs matricesFrom packedRows paletteMatrices abstractStep abstractRefusal abstractChange full lookup isThere countBeyond lightEnabled changedAt lights? activeOf abstractActive freshAbstract worldViewRows projectionRows materialRows paletteRows lightsRows lightRows kindOf unitDirection lengthOf floored smallest coneOf larger sqrtOf rootOf nearestRoot floorRoot rootFrom floats rowsOf matMul dot transposed viewTransformPoint viewTransformDir column row sumFrom add sub mul div rem neg lt isNan ofInt ofBits toBits identity defaultMaterial defaultLight
+unfolding limitOf differing countBelow rowDiffers alikeAt alike abstractRows abstractInputs matricesFrom packedRows paletteMatrices abstractStep abstractRefusal abstractChange full lookup isThere countBeyond lightEnabled changedAt lights? activeOf abstractActive freshAbstract worldViewRows projectionRows materialRows paletteRows lightsRows lightRows kindOf unitDirection lengthOf floored smallest coneOf larger sqrtOf rootOf nearestRoot floorRoot rootFrom floats rowsOf matMul dot transposed viewTransformPoint viewTransformDir column row sumFrom add sub mul div rem neg lt isNan ofInt ofBits toBits identity defaultMaterial defaultLight
 wrong-rows = refl
 
 -- a count of 0 leaves no row out

@@ -82,8 +82,8 @@ call-mark-anchored κs a = (tt, λ r e h. h)
 pub call-refresh-anchored : (κs : Lfts 3) (a : Dens κs call-refresh-kinds.ps)
     → call-refresh-reads.Asked κs a
     × ((r : ℕ) (e : AtExit (endedOf 3 call-refresh-kinds.ps call-refresh-kinds.r) κs) → call-refresh-reads.Learnt κs a r e
-    → answer r (left (now (e .0)) (now (e .1 .1 .1 .1 .1 .1 .1 .1 .0)) (now (e .1 .1 .1 .1 .1 .1 .1 .1 .1 .0)))
-    ≡ ours .byHost (now (a .0)) (keyOf (a .1 .0) (a .1 .1 .0) (a .1 .1 .1 .0) (a .1 .1 .1 .1 .0) (a .1 .1 .1 .1 .1 .0) (a .1 .1 .1 .1 .1 .1 .0) (a .1 .1 .1 .1 .1 .1 .1 .0)) (now (a .1 .1 .1 .1 .1 .1 .1 .1 .0)) (now (a .1 .1 .1 .1 .1 .1 .1 .1 .1 .0)))
+    → answer r (left (now (e .0)) (now (e .1 .1 .1 .1 .1 .1 .1 .1 .1 .0)) (now (e .1 .1 .1 .1 .1 .1 .1 .1 .1 .1 .0)))
+    ≡ ours .byHost (now (a .0)) (keyOf (a .1 .0) (a .1 .1 .0) (a .1 .1 .1 .0) (a .1 .1 .1 .1 .0) (a .1 .1 .1 .1 .1 .0) (a .1 .1 .1 .1 .1 .1 .0) (a .1 .1 .1 .1 .1 .1 .1 .0) (a .1 .1 .1 .1 .1 .1 .1 .1 .0)) (now (a .1 .1 .1 .1 .1 .1 .1 .1 .1 .0)) (now (a .1 .1 .1 .1 .1 .1 .1 .1 .1 .1 .0)))
 call-refresh-anchored κs a = (tt, λ r e h. h)
 
 -- ---- the C names
@@ -127,6 +127,6 @@ ff-mark-anchored κs a = (tt, λ r e h. h)
 pub ff-refresh-anchored : (κs : Lfts 3) (a : Dens κs ff-refresh-kinds.ps)
     → ff-refresh-reads.Asked κs a
     × ((r : ℕ) (e : AtExit (endedOf 3 ff-refresh-kinds.ps ff-refresh-kinds.r) κs) → ff-refresh-reads.Learnt κs a r e
-    → answer r (left (now (e .0)) (now (e .1 .1 .1 .1 .1 .1 .1 .1 .0)) (now (e .1 .1 .1 .1 .1 .1 .1 .1 .1 .0)))
-    ≡ ours .byHost (now (a .0)) (keyOf (a .1 .0) (a .1 .1 .0) (a .1 .1 .1 .0) (a .1 .1 .1 .1 .0) (a .1 .1 .1 .1 .1 .0) (a .1 .1 .1 .1 .1 .1 .0) (a .1 .1 .1 .1 .1 .1 .1 .0)) (now (a .1 .1 .1 .1 .1 .1 .1 .1 .0)) (now (a .1 .1 .1 .1 .1 .1 .1 .1 .1 .0)))
+    → answer r (left (now (e .0)) (now (e .1 .1 .1 .1 .1 .1 .1 .1 .1 .0)) (now (e .1 .1 .1 .1 .1 .1 .1 .1 .1 .1 .0)))
+    ≡ ours .byHost (now (a .0)) (keyOf (a .1 .0) (a .1 .1 .0) (a .1 .1 .1 .0) (a .1 .1 .1 .1 .0) (a .1 .1 .1 .1 .1 .0) (a .1 .1 .1 .1 .1 .1 .0) (a .1 .1 .1 .1 .1 .1 .1 .0) (a .1 .1 .1 .1 .1 .1 .1 .1 .0)) (now (a .1 .1 .1 .1 .1 .1 .1 .1 .1 .0)) (now (a .1 .1 .1 .1 .1 .1 .1 .1 .1 .1 .0)))
 ff-refresh-anchored κs a = (tt, λ r e h. h)

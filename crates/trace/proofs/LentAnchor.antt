@@ -108,9 +108,9 @@ module _ {M : Type 1} (𝓤 : URA M) (H : Heap 𝓤) (A : Atoms 𝓤) (mem : Mem
       _≡_ {A = ℕ × List ℕ} (r, now (e .1 .0)) (writeNumber (c .answer), c .bytes))
   lent-write-anchored = refl
 
-  -- ---- the refresh of a step by value, under the key of seven numbers
+  -- ---- the refresh of a step by value, under the key of eight numbers
 
   pub lent-refresh-anchored : lent-refresh.spec 𝓤 H A mem run ≡ says lent-refresh.ended (λ κs a r e.
-      left r (now (e .0)) (now (e .1 .1 .1 .1 .1 .1 .1 .1 .0)) (now (e .1 .1 .1 .1 .1 .1 .1 .1 .1 .0)) ≡ asLent (ours .byValue (now (a .0)) (keyOf (a .1 .0) (a .1 .1 .0) (a .1 .1 .1 .0) (a .1 .1 .1 .1 .0) (a .1 .1 .1 .1 .1 .0) (a .1 .1 .1 .1 .1 .1 .0) (a .1 .1 .1 .1 .1 .1 .1 .0)) (now (a .1 .1 .1 .1 .1 .1 .1 .1 .0))) (now (a .1 .1 .1 .1 .1 .1 .1 .1 .1 .0)))
+      left r (now (e .0)) (now (e .1 .1 .1 .1 .1 .1 .1 .1 .1 .0)) (now (e .1 .1 .1 .1 .1 .1 .1 .1 .1 .1 .0)) ≡ asLent (ours .byValue (now (a .0)) (keyOf (a .1 .0) (a .1 .1 .0) (a .1 .1 .1 .0) (a .1 .1 .1 .1 .0) (a .1 .1 .1 .1 .1 .0) (a .1 .1 .1 .1 .1 .1 .0) (a .1 .1 .1 .1 .1 .1 .1 .0) (a .1 .1 .1 .1 .1 .1 .1 .1 .0)) (now (a .1 .1 .1 .1 .1 .1 .1 .1 .1 .0))) (now (a .1 .1 .1 .1 .1 .1 .1 .1 .1 .1 .0)))
   unfolding lentRefresh
   lent-refresh-anchored = refl

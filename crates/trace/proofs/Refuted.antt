@@ -64,6 +64,7 @@ key =
       «lighting_enabled» = false;
       «specular_enable» = false;
       «vertex_blend_indexed» = false;
+      preview = false;
       «light_active_mask» = 0;
       «fog_mode» = 0;
       «vertex_blend_count» = 0;
@@ -259,7 +260,7 @@ module _ (m : List Float) (long : length m ≡ 4460) where
       let was = refresh-after ours (start m) key (theMirror m) accepted in
       subst (λ (t : Track). Marked t key) (sym (own-track rightFirst first turning))
       (again-marked (trackMarked (marks (first .abstract) turning) (first .track)) key key (was .last)
-      (record { lighting-enabled = refl; specular-enable = refl; vertex-blend-indexed = refl; light-active-mask = refl; vertex-blend-count = refl })
+      (record { lighting-enabled = refl; specular-enable = refl; vertex-blend-indexed = refl; preview = refl; light-active-mask = refl; vertex-blend-count = refl })
       (λ σ f. ap (λ (t : Bool). t && not (marks (first .abstract) turning σ)) (was .needs σ)))
 
   last-admissible : Admissible rightFirst (start m) ((firstCall ∷ own turning ∷ []) ++ lastCall ∷ [])

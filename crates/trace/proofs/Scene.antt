@@ -22,7 +22,8 @@ use Rattle.rows.specs.Matrices.{worldViewRows, projectionRows, paletteRows}
 use Rattle.rows.specs.Material.{materialRows}
 use Rattle.light_rows.specs.Light.{lightsRows}
 use Rattle.sections.specs.Counts.{paletteMatrices}
-use Rattle.sections.specs.Key.{SameShape}
+use Rattle.sections.specs.Key.{SameShape, limitOf}
+use Rattle.sections.specs.Key.{SameShape, limitOf}
 use Rattle.sections.specs.declared.key.FfVsKey.{FfVsKey}
 use Rattle.packing.specs.Inputs.{packedRows, maskAccepted}
 use Rattle.d3d9_model.specs.State.{AbstractState}
@@ -49,6 +50,7 @@ keyOf lit =
       «lighting_enabled» = lit;
       «specular_enable» = false;
       «vertex_blend_indexed» = false;
+      preview = false;
       «light_active_mask» = 0;
       «fog_mode» = 0;
       «vertex_blend_count» = 0;
@@ -67,7 +69,7 @@ keyRows Palette = 0
 keyRows Tt = 0
 
 rows-are : (a : AbstractState) (σ : Section) → rowsUnder key a σ ≡ keyRows σ
-unfolding abstractRows packedRows abstractInputs paletteMatrices worldViewRows projectionRows paletteRows materialRows lightsRows rowsOf
+unfolding limitOf abstractRows packedRows abstractInputs paletteMatrices worldViewRows projectionRows paletteRows materialRows lightsRows rowsOf
 rows-are a = same-sections (rowsUnder key a) keyRows refl
 
 -- whatever the lights are, a mask of 0 is accepted
@@ -96,7 +98,7 @@ module _ {w : World} {letOff : Section → Bool} (f : Facts w letOff) where
   refresh-admits =
       refresh-may w key (omega arith) (omega arith) (omega arith)
       (again-marked (w .track) key key (f .last)
-      (record { lighting-enabled = refl; specular-enable = refl; vertex-blend-indexed = refl; light-active-mask = refl; vertex-blend-count = refl })
+      (record { lighting-enabled = refl; specular-enable = refl; vertex-blend-indexed = refl; preview = refl; light-active-mask = refl; vertex-blend-count = refl })
       (λ σ five. f .needs σ))
 
   after-refresh : Facts (step ours (refreshing w) w) letOff

@@ -155,7 +155,7 @@ pub struct Call {
     /// The bytes of the item, of any length.
     pub given: Vec<u8>,
     pub key: Key,
-    /// Where it is there, the key's mask is the state's own active mask, whatever that is, without these bits.
+    /// Where it is there, the key's mask is the state's own of the lights that are packed, whatever that is, without these bits.
     pub own_mask: Option<u8>,
     pub lent: Length,
 }
@@ -220,6 +220,12 @@ impl Call {
             || self.given.len() != self.name.form().takes.unwrap_or(0)
     }
 
+    /// Whether it packs lights, for a preview.
+    #[must_use]
+    pub const fn is_previewed(&self) -> bool {
+        self.key.preview != 0 && matches!(self.name, Name::FillLights | Name::Refresh)
+    }
+
     /// Whether the running mirror is what the call is lent.
     #[must_use]
     pub fn lends_mirror(&self) -> bool {
@@ -228,7 +234,8 @@ impl Call {
 }
 
 /// What was overwritten and damaged before the call, a line each; then the call, its numbers, its item, the key's
-/// seven fields, where `own` is the state's own mask, and the length of the lent slice where it is not the right one.
+/// eight fields, where `own` is the state's own mask under the key's limit, and the length of the lent slice where it is not
+/// the right one.
 impl fmt::Display for Call {
     fn fmt(&self, f: &mut fmt::Formatter<'_>) -> fmt::Result {
         tell(f, "overwrite", &self.overwrite)?;
@@ -250,13 +257,16 @@ impl fmt::Display for Call {
             }
         }
         if self.name.takes_key() {
-            let [rhw, lit, specular, indexed, mask, fog, count] = self.key.fields();
+            let [rhw, lit, specular, indexed, preview, mask, fog, count] = self.key.fields();
             let mask = match self.own_mask {
                 None => mask.to_string(),
                 Some(0) => "own".to_string(),
                 Some(without) => format!("own-without-{without}"),
             };
-            write!(f, " {rhw} {lit} {specular} {indexed} {mask} {fog} {count}")?;
+            write!(
+                f,
+                " {rhw} {lit} {specular} {indexed} {preview} {mask} {fog} {count}"
+            )?;
         }
         match (form.gives, self.lent) {
             (Gives::Item(_) | Gives::Fill(_) | Gives::Mirror, Length::Bytes(bytes)) => {

@@ -2,6 +2,7 @@
 
 mod again;
 mod packs;
+mod previews;
 mod refreshes;
 mod states;
 mod words;
@@ -15,6 +16,7 @@ use crate::states::{directed, enable};
 use crate::world::World;
 
 pub use packs::lists as packs;
+pub use previews::lists as previews;
 pub use states::kinds_of_lights;
 
 /// How far past its item's length a slice goes.
@@ -34,6 +36,7 @@ pub fn edges(step: usize) -> Vec<Vec<Call>> {
         again::list(),
     ];
     lists.extend(refreshes::lists());
+    lists.extend(previews::refreshes());
     for &name in NAMES {
         lists.push(lengths(name));
         lists.push(images(name));
@@ -68,7 +71,7 @@ fn accepted(name: Name) -> Call {
     };
     let mut call = Call::numbered(name, number);
     if name.takes_key() {
-        call.key = Key::of([0, 1, 1, 0, 3, 0, 2]);
+        call.key = Key::of([0, 1, 1, 0, 0, 3, 0, 2]);
         call.own_mask = Some(0);
     }
     call

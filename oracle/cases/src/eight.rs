@@ -16,7 +16,7 @@ use crate::section::LIGHT_ROWS;
 use crate::states::directed;
 
 /// A lit draw that they all light.
-pub const KEY: Key = Key::of([0, 1, 0, 0, 0xFF, 0, 0]);
+pub const KEY: Key = Key::of([0, 1, 0, 0, 0, 0xFF, 0, 0]);
 /// The rows of a light, by their bits.
 pub type Rows = [[u32; 4]; LIGHT_ROWS];
 

@@ -7,13 +7,20 @@ use original::convert::{FfVsLayout, FfVsLayoutFlags};
 use original::dxso::{FfVsFlags, FfVsKey, MAX_LINKED_INPUTS};
 use original::ff_state::FfState;
 
-/// The seven fields of a key; a flag is set by any number but 0.
+use crate::image::SLOTS;
+
+/// The lights of a preview, at most.
+const PREVIEWED: usize = 4;
+
+/// The eight fields of a key; a flag is set by any number but 0.
 #[derive(Clone, Copy, Debug, Default, PartialEq, Eq)]
 pub struct Key {
     pub has_rhw: u8,
     pub lighting_enabled: u8,
     pub specular_enable: u8,
     pub vertex_blend_indexed: u8,
+    /// Document 02, T-01; the Rust's key has none.
+    pub preview: u8,
     pub light_active_mask: u8,
     pub fog_mode: u8,
     pub vertex_blend_count: u8,
@@ -21,12 +28,13 @@ pub struct Key {
 
 impl Key {
     #[must_use]
-    pub const fn fields(self) -> [u8; 7] {
+    pub const fn fields(self) -> [u8; 8] {
         [
             self.has_rhw,
             self.lighting_enabled,
             self.specular_enable,
             self.vertex_blend_indexed,
+            self.preview,
             self.light_active_mask,
             self.fog_mode,
             self.vertex_blend_count,
@@ -34,29 +42,37 @@ impl Key {
     }
 
     #[must_use]
-    pub const fn of(fields: [u8; 7]) -> Self {
-        let [rhw, lit, specular, indexed, mask, fog, count] = fields;
+    pub const fn of(fields: [u8; 8]) -> Self {
+        let [rhw, lit, specular, indexed, preview, mask, fog, count] = fields;
         Self {
             has_rhw: rhw,
             lighting_enabled: lit,
             specular_enable: specular,
             vertex_blend_indexed: indexed,
+            preview,
             light_active_mask: mask,
             fog_mode: fog,
             vertex_blend_count: count,
         }
     }
 
-    /// Document 01's shape fields: all except HAS_RHW and `fog_mode`.
+    /// Document 01's shape fields, all except HAS_RHW and `fog_mode`, which the preview's limit joins (document 02, T-01).
     #[must_use]
-    pub const fn shape(self) -> (bool, bool, bool, u8, u8) {
+    pub const fn shape(self) -> (bool, bool, bool, bool, u8, u8) {
         (
             self.lighting_enabled != 0,
             self.specular_enable != 0,
             self.vertex_blend_indexed != 0,
+            self.preview != 0,
             self.light_active_mask,
             self.vertex_blend_count,
         )
+    }
+
+    /// How many lights are packed, at most.
+    #[must_use]
+    pub const fn limit(self) -> usize {
+        if self.preview == 0 { SLOTS } else { PREVIEWED }
     }
 
     /// The Rust's key; what these fields do not say is as in a draw of a fresh state.

@@ -36,6 +36,7 @@ pub fn unmasked(random: &mut Random) -> Key {
         lighting_enabled: flag(random),
         specular_enable: flag(random),
         vertex_blend_indexed: if random.chance(4) { flag(random) } else { 0 },
+        preview: flag(random),
         light_active_mask: 0,
         fog_mode: fog(random),
         vertex_blend_count: count(random),

@@ -1,6 +1,7 @@
 //! Inputs, made from a seed, and the Rust's answers to them. Nothing here links our library, so
 //! that a stored list of answers can be written without it.
 
+mod active;
 pub mod answers;
 pub mod book;
 pub mod call;
@@ -20,6 +21,7 @@ pub mod lists;
 pub mod matrices;
 pub mod model;
 pub mod packs;
+pub mod previews;
 pub mod random;
 pub mod records;
 pub mod section;

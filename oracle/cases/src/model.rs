@@ -1,6 +1,7 @@
 //! Document 01's host over the unchanged Rust: the Rust's state gives every answer, every row and every field
 //! of the image; what document 01 adds is written here: the refusals, the 56 entries, the image, the refresh. Of document 02 a
-//! multiply's order stands here too, and the directions that the Rust does not rule in `section.rs`.
+//! multiply's order stands here too, the directions that the Rust does not rule in `section.rs`, and the lights of a preview in
+//! `active.rs`.
 
 mod imaged;
 
@@ -11,6 +12,7 @@ use original::convert::{FfVsLayout, FfVsLayoutFlags};
 use original::dxso::MAX_LINKED_INPUTS;
 use original::ff_state::{FfState, FfVsDirty};
 
+use crate::active::asked;
 use crate::call::{Call, Gives, LIGHT, MATERIAL, MATRIX, Name};
 use crate::image::{self, ROOM, SLOTS};
 use crate::key::Key;
@@ -116,26 +118,6 @@ impl Model {
         }
     }
 
-    /// The Rust answers with them only through a key: one of a lit draw that is not transformed.
-    fn compacted_light_masks(&self) -> [u8; 3] {
-        let mut render_states = [0; RENDER_STATE_COUNT];
-        render_states[D3DRS_LIGHTING as usize] = 1;
-        let layout = FfVsLayout {
-            flags: FfVsLayoutFlags::empty(),
-            tex_coord_count: 0,
-            tex_coord_dims: [0; 8],
-            declared_weights_count: 0,
-        };
-        let key = self
-            .rust
-            .build_vs_key(&render_states, layout, 0, [0; MAX_LINKED_INPUTS]);
-        [
-            key.light_active_mask,
-            key.light_directional_mask,
-            key.light_spot_mask,
-        ]
-    }
-
     /// Whether a light finds room: refusal 3 is the other case.
     fn has_room(&self, index: u32) -> bool {
         (index as usize) < SLOTS || self.overflow.contains(&index) || self.overflow.len() < ROOM
@@ -147,10 +129,17 @@ impl Model {
         }
     }
 
-    /// The mask that a key must have, where it is not 0.
+    /// The stored light indices of 8 or more, ascending.
+    fn indices(&self) -> impl Iterator<Item = u32> + Clone {
+        self.overflow.iter().copied()
+    }
+
+    /// The mask that this key must have, where it is not 0: that of the lights that are packed.
     #[must_use]
-    pub fn active(&self) -> u8 {
-        self.compacted_light_masks()[0]
+    pub fn active(&self, key: Key) -> u8 {
+        asked(&self.rust, self.indices(), key, |rust| {
+            compacted_light_masks(rust)[0]
+        })
     }
 
     /// The refusals of a call on an image that can be read, in their order.
@@ -177,7 +166,7 @@ impl Model {
         let mask = call.key.light_active_mask;
         match call.name {
             Name::Refresh if call.key.has_rhw != 0 => Some(refusal::TRANSFORMED),
-            Name::Refresh | Name::FillLights if mask != 0 && mask != self.active() => {
+            Name::Refresh | Name::FillLights if mask != 0 && mask != self.active(call.key) => {
                 Some(refusal::WRONG_MASK)
             }
             _ => None,
@@ -185,7 +174,7 @@ impl Model {
     }
 
     fn fill(&self, section: Section, key: Key) -> Vec<u8> {
-        section.fill(&self.rust, self.overflow.iter().copied(), key)
+        section.fill(&self.rust, self.indices(), key)
     }
 
     /// Takes the bits and puts the rows of each section that they name into a copy of the mirror.
@@ -268,7 +257,7 @@ impl Model {
             }
             Name::VsSourceLightInputs => Output::Number(self.rust.vs_source_light_inputs()),
             Name::CompactedLightMasks => {
-                let [active, directional, spot] = self.compacted_light_masks();
+                let [active, directional, spot] = compacted_light_masks(&self.rust);
                 Output::Number(u32::from_le_bytes([active, directional, spot, 0]))
             }
             Name::MarkFfVsDirty => {
@@ -285,6 +274,24 @@ impl Model {
             .get_light_at(index)
             .expect("a light that the Rust calls defined")
     }
+}
+
+/// The Rust answers with them only through a key: one of a lit draw that is not transformed.
+fn compacted_light_masks(rust: &FfState) -> [u8; 3] {
+    let mut render_states = [0; RENDER_STATE_COUNT];
+    render_states[D3DRS_LIGHTING as usize] = 1;
+    let layout = FfVsLayout {
+        flags: FfVsLayoutFlags::empty(),
+        tex_coord_count: 0,
+        tex_coord_dims: [0; 8],
+        declared_weights_count: 0,
+    };
+    let key = rust.build_vs_key(&render_states, layout, 0, [0; MAX_LINKED_INPUTS]);
+    [
+        key.light_active_mask,
+        key.light_directional_mask,
+        key.light_spot_mask,
+    ]
 }
 
 fn item(length: usize, put: impl FnOnce(&mut [u8])) -> Output {

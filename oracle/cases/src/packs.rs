@@ -30,7 +30,7 @@ pub fn list(seed: u64, number: u64) -> Vec<Call> {
 }
 
 /// Three of four calls fill.
-fn pack(random: &mut Random, names: &[Name]) -> Call {
+pub(crate) fn pack(random: &mut Random, names: &[Name]) -> Call {
     let name = match random.below(8) {
         0 | 1 => random.pick(names),
         2..5 => Name::FillLights,
@@ -56,7 +56,7 @@ fn pack(random: &mut Random, names: &[Name]) -> Call {
 const FOGS: [u8; 3] = [0, 1, 255];
 
 /// Lists of row counts: one for each set of flags and each mask.
-pub const ROW_COUNT_LISTS: u64 = 16 * 256;
+pub const ROW_COUNT_LISTS: u64 = 32 * 256;
 /// Row counts of a list where no count is left out.
 pub const ROW_COUNTS: u64 = 256 * FOGS.len() as u64;
 
@@ -65,15 +65,16 @@ pub const ROW_COUNTS: u64 = 256 * FOGS.len() as u64;
 #[must_use]
 pub fn row_counts(number: u64, step: usize) -> Vec<Call> {
     let (flags, mask) = (number >> 8, number as u8);
-    let [rhw, lit, specular, indexed]: [u8; 4] = core::array::from_fn(|i| match flags >> i & 1 {
+    let [rhw, lit, specular, indexed, preview] = core::array::from_fn(|i| match flags >> i & 1 {
         0 => 0,
         _ => SET[(usize::from(mask) + i) % 4],
     });
     let counts = (0..=255u8)
         .step_by(step)
         .chain([39, 40, 41, 255].into_iter().take(step - 1));
-    let keys = counts
-        .flat_map(|count| FOGS.map(|fog| Key::of([rhw, lit, specular, indexed, mask, fog, count])));
+    let keys = counts.flat_map(|count| {
+        FOGS.map(|fog| Key::of([rhw, lit, specular, indexed, preview, mask, fog, count]))
+    });
     let mut calls = kinds_of_lights();
     calls.extend(keys.map(|key| Call::keyed(Name::RowCount, key)));
     calls

@@ -4,13 +4,14 @@
 use std::mem::MaybeUninit;
 use std::ops::Range;
 
-use mtld3d_types::{D3DLIGHT_DIRECTIONAL, D3DLIGHT_POINT, D3DLIGHT9, D3DTS_VIEW};
+use mtld3d_types::{D3DLIGHT9, D3DTS_VIEW};
 use original::dxso::FfVsKey;
 use original::ff_state::FfState;
 
+use crate::active::{active, asked};
 use crate::directions::{Rule, in_view, rule, unit};
 use crate::floats::{alike, with_one_nan};
-use crate::image::{SLOTS, number32};
+use crate::image::number32;
 use crate::key::Key;
 
 /// The bytes of a row.
@@ -96,17 +97,19 @@ impl Section {
         })
     }
 
-    /// The rows; the key's mask is 0 or the compacted active mask. `indices` are those of the lights from index 8 on, ascending.
+    /// The rows; the key's mask is 0 or that of the lights that are packed. `indices` are those of the lights from index 8 on,
+    /// ascending.
     pub(crate) fn fill(
         self,
         rust: &FfState,
-        indices: impl Iterator<Item = u32>,
+        indices: impl Iterator<Item = u32> + Clone,
         key: Key,
     ) -> Vec<u8> {
-        let mut bytes = self.rust_fill(rust, key);
-        if self == Self::Lights && !bytes.is_empty() {
-            put_directions(rust, &active(rust, indices), &mut bytes);
+        if self != Self::Lights || key.light_active_mask == 0 {
+            return self.rust_fill(rust, key);
         }
+        let mut bytes = asked(rust, indices.clone(), key, |rust| self.rust_fill(rust, key));
+        put_directions(rust, &active(rust, indices, key.limit()), &mut bytes);
         bytes
     }
 
@@ -144,7 +147,7 @@ impl Section {
     pub(crate) fn wrong_rows(
         self,
         rust: &FfState,
-        indices: impl Iterator<Item = u32>,
+        indices: impl Iterator<Item = u32> + Clone,
         key: Key,
         mirror: &[u8],
     ) -> usize {
@@ -170,17 +173,6 @@ fn put_directions(rust: &FfState, lights: &[D3DLIGHT9], bytes: &mut [u8]) {
             }
         }
     }
-}
-
-/// The lights that are packed: of the slots, then of the indices, those that light, eight at most.
-fn active(rust: &FfState, indices: impl Iterator<Item = u32>) -> Vec<D3DLIGHT9> {
-    (0..SLOTS as u32)
-        .chain(indices)
-        .filter(|&index| rust.is_light_enabled_at(index))
-        .filter_map(|index| rust.get_light_at(index))
-        .filter(|light| (D3DLIGHT_POINT..=D3DLIGHT_DIRECTIONAL).contains(&light.type_))
-        .take(SLOTS)
-        .collect()
 }
 
 fn alike_at(a: &[u8], b: &[u8], at: usize) -> bool {

@@ -115,16 +115,20 @@ fn floats_of(count: usize, random: &mut Random) -> Vec<u8> {
         .collect()
 }
 
-/// A view that turns and moves mostly; else one of any kind.
+/// A view that turns and moves, or one of any kind.
+pub(crate) fn view(random: &mut Random) -> Call {
+    let kind = if random.chance(2) {
+        Kind::Rigid
+    } else {
+        random.pick(&KINDS)
+    };
+    set_transform(VIEW, &matrices::matrix(kind, random))
+}
+
 fn transforms(random: &mut Random) -> Vec<Call> {
     let mut calls = Vec::new();
     if !random.chance(4) {
-        let kind = if random.chance(2) {
-            Kind::Rigid
-        } else {
-            random.pick(&KINDS)
-        };
-        calls.push(set_transform(VIEW, &matrices::matrix(kind, random)));
+        calls.push(view(random));
     }
     let kind = random.pick(&KINDS);
     calls.push(set_transform(PROJECTION, &matrices::matrix(kind, random)));
@@ -158,7 +162,7 @@ fn lights(random: &mut Random, calls: &mut Vec<Call>) {
     }
 }
 
-fn light(random: &mut Random) -> [u32; LIGHT / 4] {
+pub(crate) fn light(random: &mut Random) -> [u32; LIGHT / 4] {
     let mut light = [0; LIGHT / 4];
     let plain = random.chance(2);
     for number in &mut light {

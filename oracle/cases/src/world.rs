@@ -5,6 +5,7 @@ use crate::call::{Call, Name};
 use crate::claim::Claim;
 use crate::damage::patch;
 use crate::image::{self, BYTES, Reason};
+use crate::key::Key;
 use crate::model::{Answer, Model, Output, refusal};
 use crate::section::{MIRROR, Section};
 
@@ -25,6 +26,8 @@ pub struct Judged {
     /// Whether the call's image is the running one afterwards. A damaged image that is refused is
     /// not: it must be as it was given, and the list goes on with the running one.
     pub ran: bool,
+    /// Whether the call packs lights for a preview and more of them light than it has.
+    pub limited: bool,
     /// After a refresh for which demand 3's conditions hold, the sections whose count must be 0, by their bits.
     pub due: Option<u8>,
 }
@@ -88,6 +91,7 @@ impl World {
             answer: Ok(Output::Nothing),
             reasons: Vec::new(),
             ran: true,
+            limited: false,
             due: None,
         };
         self.overwrite(call);
@@ -110,8 +114,9 @@ impl World {
             self.read_in(bytes);
         }
         if let Some(without) = call.own_mask {
-            judged.call.key.light_active_mask = self.model.active() & !without;
+            judged.call.key.light_active_mask = self.model.active(call.key) & !without;
         }
+        judged.limited = call.is_previewed() && self.model.active(Key::default()) > 0x0F;
         judged.answer = self.model.answer(&judged.call, &self.mirror);
         if judged.answer.is_ok() && call.name.form().writes {
             self.model.write(&mut self.image);

@@ -27,7 +27,7 @@ fn rows(calls: &[Call], name: Name, key: Key) -> Vec<[f32; 4]> {
     floats.as_chunks().0.to_vec()
 }
 
-const KEY: Key = Key::of([0; 7]);
+const KEY: Key = Key::of([0; 8]);
 const LIT: Key = Key {
     lighting_enabled: 1,
     ..KEY

@@ -10,7 +10,7 @@ use cases::states::{directed, enable, set_light, set_material, set_transform};
 use cases::world::{Judged, World};
 
 /// Lit with specular, three matrices; the mask is the state's own.
-const KEY: Key = Key::of([0, 1, 1, 0, 0, 0, 3]);
+const KEY: Key = Key::of([0, 1, 1, 0, 0, 0, 0, 3]);
 
 fn refresh(key: Key) -> Call {
     Call {

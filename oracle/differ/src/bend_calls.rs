@@ -4,12 +4,14 @@
 mod changes;
 mod images;
 mod lights;
+mod previews;
 mod reads;
 mod refreshes;
 mod rows;
 
 use cases::call::{Call, Name};
 use cases::image;
+use cases::key::Key;
 
 use crate::bends::{BENDS, Bend};
 use crate::host::{self, Lent};
@@ -52,10 +54,10 @@ impl Held<'_> {
         self.read(Name::ImageCheck).is_some()
     }
 
-    /// The compacted active mask, where the bytes are an image.
-    fn active(&self) -> Option<u8> {
+    /// The mask of the lights that are packed under the key, where the bytes are an image.
+    fn active(&self, key: Key) -> Option<u8> {
         let masks = self.read(Name::CompactedLightMasks)?;
-        Some(masks as u8)
+        Some(masks as u8 & (0xFF >> (image::SLOTS - key.limit())))
     }
 
     /// The bytes of the image where it is as long as one.

@@ -175,11 +175,13 @@ bends! {
     "ff_vs_source_light_inputs" {
         SourceTag, "source-tag", ["calls"];
         SourceUnmasked, "source-unmasked", ["calls"];
+        SourceFour, "source-four", ["calls"];
     }
     "ff_compacted_light_masks" {
         MasksExchanged, "masks-exchanged", ["calls"];
         MasksTag, "masks-tag", ["calls"];
         MasksSlots, "masks-slots", ["calls"];
+        MasksFour, "masks-four", ["calls"];
     }
     "ff_mark_ff_vs_dirty" {
         MarkSeventh, "mark-seventh", ["calls"];
@@ -200,6 +202,7 @@ bends! {
         CountRhwDropped, "count-rhw-dropped", ["row-count"];
         CountFlagLow, "count-flag-low", ["row-count"];
         CountCap, "count-cap", ["row-count"];
+        CountPreview, "count-preview", ["row-count", "packs"];
         CountRefusalNumber, "count-refusal-number", ["packs"];
     }
     "ff_wv_section_rows" {
@@ -214,9 +217,11 @@ bends! {
     "ff_lights_section_rows" {
         LightsRowsOnes, "lights-rows-ones", ["packs"];
         LightsRowsUnlit, "lights-rows-unlit", ["packs"];
+        LightsRowsPreview, "lights-rows-preview", ["packs", "preview"];
     }
     "ff_palette_section_rows" {
         PaletteRowsCap, "palette-rows-cap", ["packs"];
+        PaletteRowsExchanged, "palette-rows-exchanged", ["packs"];
     }
     "ff_tt_section_rows" {
         TtRowsStages, "tt-rows-stages", ["packs"];
@@ -262,6 +267,13 @@ bends! {
         LightsZeroSign, "lights-zero-sign", ["packs"];
         LightsRowsSwapped, "lights-rows-swapped", ["packs"];
         LightsReversed, "lights-reversed", ["packs"];
+        LightsPreviewIgnored, "lights-preview-ignored", ["packs", "preview"];
+        LightsPreviewLow, "lights-preview-low", ["packs", "preview"];
+        LightsPreviewExchanged, "lights-preview-exchanged", ["packs", "preview"];
+        LightsPreviewLast, "lights-preview-last", ["packs", "preview"];
+        LightsPreviewEight, "lights-preview-eight", ["packs", "preview"];
+        LightsPreviewEither, "lights-preview-either", ["packs", "preview"];
+        LightsPreviewFive, "lights-preview-five", ["packs", "preview"];
     }
     "ff_fill_palette_section" {
         PaletteCap, "palette-cap", ["packs"];
@@ -306,6 +318,11 @@ bends! {
         RefreshRefusalTakes, "refresh-refusal-takes", ["calls"];
         RefreshRefusalNumber, "refresh-refusal-number", ["calls"];
         RefreshGuard, "refresh-guard", ["calls"];
+        RefreshPreviewIgnored, "refresh-preview-ignored", ["calls", "preview"];
+        RefreshPreviewLow, "refresh-preview-low", ["calls", "preview"];
+        RefreshPreviewLast, "refresh-preview-last", ["calls", "preview"];
+        RefreshPreviewEight, "refresh-preview-eight", ["calls", "preview"];
+        RefreshPreviewWrites, "refresh-preview-writes", ["calls", "preview"];
     }
     "ff_state_fresh" {
         StateFreshClean, "state-fresh-clean", ["calls"];
@@ -343,6 +360,7 @@ bends! {
         StateRefusedTells, "state-refused-tells", ["calls"];
         StateRefreshRow, "state-refresh-row", ["calls"];
         StateRefreshGuard, "state-refresh-guard", ["calls"];
+        StateRefreshPreview, "state-refresh-preview", ["calls", "preview"];
         DirectionUnscaled, "direction-unscaled", ["directions"];
         DirectionLastBit, "direction-last-bit", ["directions"];
         DirectionZeroSign, "direction-zero-sign", ["directions"];

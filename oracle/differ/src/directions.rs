@@ -115,12 +115,12 @@ impl Pair {
             let status = unsafe { raw::ff_state_set_light_at(&mut *self.state, index, &light) };
             assert_eq!(status, 0, "a slot has room");
         }
-        let [a, b, c, d, e, f, g] = KEY.fields();
+        let [a, b, c, d, e, f, g, h] = KEY.fields();
         let (mirror, mut bits) = (self.mirror.as_mut_ptr(), 0);
         let s = &mut *self.state;
         // SAFETY: as above; the mirror has as many words, each a float by its bits.
         let status = unsafe {
-            raw::ff_state_refresh(s, a, b, c, d, e, f, g, mirror.cast(), FLOATS, &mut bits)
+            raw::ff_state_refresh(s, a, b, c, d, e, f, g, h, mirror.cast(), FLOATS, &mut bits)
         };
         if status != 0 || bits & u32::from(Section::Lights.bit()) == 0 {
             return Err(format!("status {status}, bits {bits}"));

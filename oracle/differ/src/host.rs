@@ -88,11 +88,11 @@ pub fn on_image(call: &Call, lent: Lent<'_>) -> u32 {
     let (out, out_len) = (out.as_mut_ptr(), out.len());
     let number: *mut u32 = number;
     let n = call.number;
-    let [a, b, c, d, e, f, g] = call.key.fields();
+    let [a, b, c, d, e, f, g, h] = call.key.fields();
     // SAFETY: each pointer goes with its slice's length, and no two of them overlap.
     unsafe {
-        let counts = |call: Counts| call(image, image_len, a, b, c, d, e, f, g, number);
-        let fills = |call: Fills| call(image, image_len, a, b, c, d, e, f, g, out, out_len);
+        let counts = |call: Counts| call(image, image_len, a, b, c, d, e, f, g, h, number);
+        let fills = |call: Fills| call(image, image_len, a, b, c, d, e, f, g, h, out, out_len);
         match call.name {
             Name::ImageFresh => raw::ff_image_fresh(image, image_len),
             Name::ImageCheck => raw::ff_image_check(image, image_len),
@@ -131,17 +131,18 @@ pub fn on_image(call: &Call, lent: Lent<'_>) -> u32 {
             Name::FillLights => fills(raw::ff_fill_lights_section),
             Name::FillPalette => fills(raw::ff_fill_palette_section),
             Name::FillTt => fills(raw::ff_fill_tt_section),
-            Name::Refresh => {
-                raw::ff_refresh(image, image_len, a, b, c, d, e, f, g, out, out_len, number)
-            }
+            Name::Refresh => raw::ff_refresh(
+                image, image_len, a, b, c, d, e, f, g, h, out, out_len, number,
+            ),
         }
     }
 }
 
 /// A call that answers with a number, and one that fills a slice.
-type Counts = unsafe extern "C" fn(*const u8, usize, u8, u8, u8, u8, u8, u8, u8, *mut u32) -> u32;
+type Counts =
+    unsafe extern "C" fn(*const u8, usize, u8, u8, u8, u8, u8, u8, u8, u8, *mut u32) -> u32;
 type Fills =
-    unsafe extern "C" fn(*const u8, usize, u8, u8, u8, u8, u8, u8, u8, *mut u8, usize) -> u32;
+    unsafe extern "C" fn(*const u8, usize, u8, u8, u8, u8, u8, u8, u8, u8, *mut u8, usize) -> u32;
 
 pub fn mat_mul(a: &[u8], b: &[u8], out: &mut [u8]) -> u32 {
     // SAFETY: each pointer goes with its slice's length, and `out` overlaps neither factor.

@@ -1,14 +1,14 @@
 //! Lists of calls, ours beside document 01's host over the unchanged Rust.
 
 use cases::call::{Call, NAMES};
-use cases::{edges, lists, packs};
+use cases::{edges, lists, packs, previews};
 
 use crate::host::Host;
 use crate::memory::Unlike;
 use crate::report::{Difference, Outcome, Run};
 use crate::shrink_list::shrink;
 use crate::step::Pair;
-use crate::tally::Tally;
+use crate::tally::{PREVIEWED, Tally};
 use crate::workers::first_failing;
 
 /// A run of fewer calls than this tries one in so many of the damaged words and of the packs among the edges only:
@@ -154,6 +154,18 @@ pub fn packs(run: &mut Run, host: Host, count: u64) -> Outcome {
     });
     tally.tell(run);
     outcome.and_then(|()| tally.unmet(&packs::names()))
+}
+
+/// The edges of previews, then at least `count` packs of lights and refreshes for one on states made from the seed.
+pub fn previews(run: &mut Run, host: Host, count: u64) -> Outcome {
+    let mut tally = Tally::default();
+    let outcome = edge_lists(run, host, &edges::previews(), &mut tally).and_then(|()| {
+        let size = (count, previews::LENGTH);
+        seeded(run, host, "preview", size, previews::list, &mut tally)
+    });
+    tally.tell(run);
+    tally.tell_counted(run);
+    outcome.and_then(|()| tally.unmet(&PREVIEWED))
 }
 
 /// The row count under every set of flags, mask and count, or under one in `step` counts.

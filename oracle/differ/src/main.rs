@@ -85,6 +85,7 @@ fn sums_start_at_negative_zero() -> bool {
 /// Calls of the short run's lists, with each of its two seeds.
 const SHORT_CALLS: u64 = 300_000;
 const SHORT_PACKS: u64 = 150_000;
+const SHORT_PREVIEWS: u64 = 50_000;
 /// Its directions of each kind.
 const SHORT_DIRECTIONS: u64 = 500_000;
 
@@ -110,7 +111,9 @@ fn short(run: &mut Run, host: Host, seed: u64) -> Result<Outcome, String> {
 }
 
 fn short_lists(run: &mut Run, host: Host) -> Outcome {
-    lists::calls(run, host, SHORT_CALLS).and_then(|()| lists::packs(run, host, SHORT_PACKS))
+    lists::calls(run, host, SHORT_CALLS)
+        .and_then(|()| lists::packs(run, host, SHORT_PACKS))
+        .and_then(|()| lists::previews(run, host, SHORT_PREVIEWS))
 }
 
 fn compare(run: &mut Run, arguments: &Arguments) -> Result<Outcome, String> {
@@ -125,6 +128,7 @@ fn compare(run: &mut Run, arguments: &Arguments) -> Result<Outcome, String> {
         "lengths" => lengths::lengths(run, host).and_then(|()| memory::lengths(run, host)),
         "calls" => lists::calls(run, host, count(20_000_000)),
         "packs" => lists::packs(run, host, count(20_000_000)),
+        "preview" => lists::previews(run, host, count(5_000_000)),
         "directions" => directions::directions(run, host, count(10_000_000)),
         "row-count" => {
             let some = arguments

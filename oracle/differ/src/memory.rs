@@ -239,7 +239,7 @@ impl Memory {
 
     fn refresh(&mut self, judged: &Judged, world: &World) -> Result<(), Unlike> {
         const CALL: &str = "ff_state_refresh";
-        let (length, key) = (judged.call.lent_length(), judged.call.key);
+        let (length, mut key) = (judged.call.lent_length(), judged.call.key);
         if length % 4 != 0 {
             return Ok(());
         }
@@ -251,7 +251,10 @@ impl Memory {
             other.resize(length / 4 + 1, GUARD);
             (other.as_mut_ptr(), length / 4)
         };
-        let [a, b, c, d, e, f, g] = key.fields();
+        if self.bend == Some(Bend::StateRefreshPreview) {
+            key.preview = 0;
+        }
+        let [a, b, c, d, e, f, g, h] = key.fields();
         let s: *mut FfState = &mut self.state.held;
         // SAFETY: as above; the pointer goes with as many words, each a float by its bits.
         let status = unsafe {
@@ -264,6 +267,7 @@ impl Memory {
                 e,
                 f,
                 g,
+                h,
                 mirror.cast(),
                 floats,
                 &mut number[1],

@@ -182,4 +182,5 @@ pub fn calls(sample: &mut Sample) {
         running.calls(&reads(number as u32));
     }
     draws::directions(&mut running);
+    draws::previews(&mut running);
 }

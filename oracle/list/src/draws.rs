@@ -34,27 +34,29 @@ fn scene() -> Vec<Call> {
 }
 
 /// Each flag alone and several together; masks; counts.
-const KEYS: [[u8; 7]; 20] = [
-    [0, 0, 0, 0, 0, 0, 0],
-    [1, 0, 0, 0, 0, 0, 0],
-    [0, 1, 0, 0, 0, 0, 0],
-    [0, 0, 1, 0, 0, 0, 0],
-    [0, 0, 0, 1, 0, 0, 0],
-    [0, 0, 0, 0, 0, 2, 0],
-    [0, 1, 1, 0, 0, 0, 0],
-    [0, 1, 0, 1, 7, 0, 1],
-    [0, 0, 1, 1, 7, 1, 2],
-    [255, 128, 2, 4, 7, 255, 255],
-    [0, 1, 1, 0, 7, 0, 0],
-    [0, 0, 0, 0, 7, 0, 1],
-    [0, 1, 0, 0, 0, 0, 3],
-    [0, 1, 0, 0, 4, 0, 2],
-    [0, 1, 1, 0, 6, 0, 0],
-    [0, 1, 1, 0, 255, 0, 4],
-    [0, 0, 0, 1, 3, 0, 40],
-    [0, 0, 0, 0, 1, 0, 40],
-    [0, 2, 2, 0, 0, 3, 41],
-    [0, 1, 1, 0, 7, 0, 255],
+const KEYS: [[u8; 8]; 22] = [
+    [0, 0, 0, 0, 0, 0, 0, 0],
+    [1, 0, 0, 0, 0, 0, 0, 0],
+    [0, 1, 0, 0, 0, 0, 0, 0],
+    [0, 0, 1, 0, 0, 0, 0, 0],
+    [0, 0, 0, 1, 0, 0, 0, 0],
+    [0, 0, 0, 0, 0, 0, 2, 0],
+    [0, 1, 1, 0, 0, 0, 0, 0],
+    [0, 1, 0, 1, 0, 7, 0, 1],
+    [0, 0, 1, 1, 0, 7, 1, 2],
+    [255, 128, 2, 4, 0, 7, 255, 255],
+    [0, 1, 1, 0, 0, 7, 0, 0],
+    [0, 0, 0, 0, 0, 7, 0, 1],
+    [0, 1, 0, 0, 0, 0, 0, 3],
+    [0, 1, 0, 0, 0, 4, 0, 2],
+    [0, 1, 1, 0, 0, 6, 0, 0],
+    [0, 1, 1, 0, 0, 255, 0, 4],
+    [0, 0, 0, 1, 0, 3, 0, 40],
+    [0, 0, 0, 0, 0, 1, 0, 40],
+    [0, 2, 2, 0, 0, 0, 3, 41],
+    [0, 1, 1, 0, 0, 7, 0, 255],
+    [0, 1, 1, 0, 1, 7, 0, 0],
+    [0, 0, 0, 1, 128, 15, 0, 1],
 ];
 
 /// Row counts and fills of every section under each key; a length too short and one too long.
@@ -84,8 +86,8 @@ pub fn packs(running: &mut Running) {
 /// Frames of one mirror: each change alone between two refreshes, overwritings and marks, other keys, each refusal with
 /// LIGHTS dirty and clean.
 pub fn frames(running: &mut Running) {
-    let key = Key::of([0, 1, 1, 0, 0, 0, 2]);
-    let other = Key::of([0, 1, 0, 1, 0, 1, 1]);
+    let key = Key::of([0, 1, 1, 0, 0, 0, 0, 2]);
+    let other = Key::of([0, 1, 0, 1, 0, 0, 1, 1]);
     let identity = core::array::from_fn(|i| if i % 5 == 0 { ONE } else { 0 });
     // Rows of no section, and each section's first: NaNs of other patterns.
     for (row, i) in FIVE
@@ -142,8 +144,8 @@ pub fn frames(running: &mut Running) {
     for key in [
         other,
         key,
-        Key::of([0; 7]),
-        Key::of([0, 0, 0, 0, 0, 0, 255]),
+        Key::of([0; 8]),
+        Key::of([0, 0, 0, 0, 0, 0, 0, 255]),
     ] {
         running.calls(&[mark(31), refresh(key), mark(32), refresh(key)]);
     }
@@ -191,7 +193,7 @@ pub fn directions(running: &mut Running) {
             [ONE, INFINITY, ONE | SIGN],
         ],
     ];
-    let key = Key::of([0, 1, 0, 0, 0xFF, 0, 0]);
+    let key = Key::of([0, 1, 0, 0, 0, 0xFF, 0, 0]);
     running.call(&Call::plain(Name::ImageFresh));
     for eight in EIGHTS {
         for (index, direction) in (0..).zip(eight) {
@@ -201,5 +203,48 @@ pub fn directions(running: &mut Running) {
             let fill = Call::keyed(Name::FillLights, key);
             running.calls(&[set_transform(2, view), fill, refresh(key)]);
         }
+    }
+}
+
+/// Document 02, T-01: nine lights that light, then three, under keys of the main screen and of a preview: each mask with the room
+/// of its rows and with that of four and of eight lights, and refreshed; then one limit after the other, unmarked and marked.
+pub fn previews(running: &mut Running) {
+    const LIGHTS: [u32; 9] = [1, 4, 7, 8, 9, 70, 300, 65_536, u32::MAX];
+    let key = |preview, mask| Key::of([0, 1, 0, 0, preview, mask, 0, 0]);
+    running.call(&Call::plain(Name::ImageFresh));
+    for (index, n) in LIGHTS.into_iter().zip(0..) {
+        let mut light: [u32; LIGHT / 4] =
+            core::array::from_fn(|i| ((26 * n + i as u32) as f32).to_bits());
+        light[0] = 1 + n % 3;
+        running.call(&set_light(index, &light));
+    }
+    for (first, masks) in [(1, [0x0F, 0xFF, 0x1F, 0]), (300, [0x07, 0x0F, 0x03, 0])] {
+        running.calls(&LIGHTS.map(|index| enable(index, u32::from(index >= first))));
+        let keys = [0, 1, 128].map(|preview| masks.map(|mask| key(preview, mask)));
+        for key in keys.into_iter().flatten() {
+            for name in [Name::LightsRows, Name::RowCount] {
+                running.call(&Call::keyed(name, key));
+            }
+            let fill = Call::keyed(Name::FillLights, key);
+            let rooms = [24 * ROW, 48 * ROW].into_iter();
+            for room in rooms.filter(|&room| room != fill.right_length()) {
+                running.call(&Call {
+                    lent: Length::Bytes(room),
+                    ..fill.clone()
+                });
+            }
+            running.calls(&[fill, mark(8), Call::keyed(Name::Refresh, key)]);
+        }
+        let [screen, preview] = [0, 1].map(|preview| refresh(key(preview, 0)));
+        running.calls(&[
+            mark(31),
+            screen.clone(),
+            preview.clone(),
+            mark(31),
+            preview,
+            screen,
+            Call::plain(Name::CompactedLightMasks),
+            Call::plain(Name::VsSourceLightInputs),
+        ]);
     }
 }

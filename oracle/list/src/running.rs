@@ -59,7 +59,6 @@ pub struct Running<'a> {
     world: World,
     pub image: Vec<u8>,
     item: [u8; ITEM],
-    /// The seven fields, and a byte that is not looked at.
     key: [u8; 8],
     mirror: Vec<u8>,
 }
@@ -108,12 +107,10 @@ impl<'a> Running<'a> {
         self.line('I', &words, 0);
     }
 
-    /// Puts a key over the running one where it is another; the last byte is any.
+    /// Puts a key over the running one where it is another.
     fn put_key(&mut self, key: Key) {
-        let [a, b, c, d, e, f, g] = key.fields();
-        if self.key[..7] != [a, b, c, d, e, f, g] {
-            let last = self.key[7].wrapping_mul(5).wrapping_add(1);
-            self.key = [a, b, c, d, e, f, g, last];
+        if self.key != key.fields() {
+            self.key = key.fields();
             let words = words(&self.key);
             self.line('Y', &words, 0);
         }
@@ -125,10 +122,10 @@ impl<'a> Running<'a> {
         self.line('J', &[at as u32, bits], 0);
     }
 
-    /// The compacted active mask, 0 where the bytes are no image.
-    fn active(&self) -> u8 {
+    /// The mask of the lights that are packed under the key, 0 where the bytes are no image.
+    fn active(&self, key: Key) -> u8 {
         if image::reasons(&self.image).is_empty() {
-            Model::read(&self.image).active()
+            Model::read(&self.image).active(key)
         } else {
             0
         }
@@ -138,7 +135,7 @@ impl<'a> Running<'a> {
     pub fn call_on(&mut self, call: &Call, length: usize) -> bool {
         let mut call = call.clone();
         if let Some(without) = call.own_mask.take() {
-            call.key.light_active_mask = self.active() & !without;
+            call.key.light_active_mask = self.active(call.key) & !without;
         }
         if call.name.takes_key() {
             self.put_key(call.key);

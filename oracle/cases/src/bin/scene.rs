@@ -60,7 +60,7 @@ fn print_direction(d: Direction, packed: Direction) {
     println!("case{}", words.collect::<String>());
 }
 
-const LIT: Key = Key::of([0, 1, 1, 0, 1, 0, 2]);
+const LIT: Key = Key::of([0, 1, 1, 0, 0, 1, 0, 2]);
 
 /// A spot light of 25 different numbers.
 fn spot() -> [u32; 26] {

@@ -49,7 +49,7 @@ fn changes() -> Vec<Call> {
 pub fn list() -> Vec<Call> {
     let refresh = Call {
         own_mask: Some(0),
-        ..Call::keyed(Name::Refresh, Key::of([0, 1, 1, 0, 0, 0, 3]))
+        ..Call::keyed(Name::Refresh, Key::of([0, 1, 1, 0, 0, 0, 0, 3]))
     };
     let mut calls = Vec::new();
     for change in changes() {

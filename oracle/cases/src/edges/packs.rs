@@ -1,5 +1,6 @@
 //! Packing calls that are the same for every seed: every mask, every count and every flag, and each border in turn.
 
+use super::previews;
 use super::states::states;
 use crate::call::{Call, Gives, Length, Name};
 use crate::damage::Damage;
@@ -15,7 +16,7 @@ const LENGTH: usize = 400;
 /// A mask that is no state's own: those are low bits, as many as there are lights that light.
 const NO_MASK: u8 = 0xAA;
 
-/// One in `step` of the calls below, on each of the states.
+/// One in `step` of the calls below, on each of the states; then those of previews.
 #[must_use]
 pub fn lists(step: usize) -> Vec<Vec<Call>> {
     let packs: Vec<Call> = keyed().into_iter().chain(damaged()).step_by(step).collect();
@@ -23,7 +24,7 @@ pub fn lists(step: usize) -> Vec<Vec<Call>> {
     let lists = states
         .iter()
         .flat_map(|state| packs.chunks(LENGTH).map(|packs| [state, packs].concat()));
-    lists.collect()
+    lists.chain(previews::packs()).collect()
 }
 
 /// The call under the state's own mask.
@@ -34,8 +35,8 @@ fn own(name: Name, key: Key) -> Call {
     }
 }
 
-fn flags() -> impl Iterator<Item = [u8; 4]> {
-    (0..16u8).map(|flags| {
+fn flags() -> impl Iterator<Item = [u8; 5]> {
+    (0..32u8).map(|flags| {
         core::array::from_fn(|i| {
             if flags & (1 << i) == 0 {
                 0
@@ -51,10 +52,10 @@ fn flags() -> impl Iterator<Item = [u8; 4]> {
 fn keyed() -> Vec<Call> {
     let mut packs = Vec::new();
     for (set, at) in flags().zip(0..) {
-        let [rhw, lit, specular, indexed] = set;
+        let [rhw, lit, specular, indexed, preview] = set;
         let key = |mask: u8, count: u8| {
             let fog = [0, 1, 255][usize::from(mask ^ count) % 3];
-            Key::of([rhw, lit, specular, indexed, mask, fog, count])
+            Key::of([rhw, lit, specular, indexed, preview, mask, fog, count])
         };
         for name in [Name::FillLights, Name::LightsRows] {
             packs.extend((0..=255).map(|mask| Call::keyed(name, key(mask, at))));

@@ -11,11 +11,11 @@ use crate::section::{FIVE, MIRROR, ROW};
 use crate::states::{enable, mark, refresh, set_light, set_material, set_transform};
 
 /// Lit with specular, and two matrices.
-const KEY: Key = Key::of([0, 1, 1, 0, 0, 0, 2]);
+const KEY: Key = Key::of([0, 1, 1, 0, 0, 0, 0, 2]);
 
 pub fn lists() -> Vec<Vec<Call>> {
     let mut lists = vec![masks(), counts(), frames(), first_refresh()];
-    lists.extend(SETS.map(bits));
+    lists.extend(SETS.map(|(key, own_mask)| bits(kinds_of_lights(), key, own_mask)));
     lists.extend([true, false].map(refusals));
     lists
 }
@@ -34,16 +34,15 @@ fn whole_mirror(of: u32) -> Vec<Patch> {
 
 /// Sets of flags, a mask of 0 or the state's own, and counts.
 const SETS: [(Key, Option<u8>); 5] = [
-    (Key::of([0, 0, 0, 0, 0, 0, 0]), None),
-    (Key::of([0, 0, 255, 0, 0, 1, 1]), Some(0)),
-    (Key::of([0, 2, 0, 1, 0, 255, 1]), Some(0)),
-    (Key::of([0, 128, 4, 0, 0, 0, 41]), Some(0)),
-    (Key::of([0, 1, 1, 1, 0, 2, 0]), None),
+    (Key::of([0; 8]), None),
+    (Key::of([0, 0, 255, 0, 0, 0, 1, 1]), Some(0)),
+    (Key::of([0, 2, 0, 1, 0, 0, 255, 1]), Some(0)),
+    (Key::of([0, 128, 4, 0, 0, 0, 0, 41]), Some(0)),
+    (Key::of([0, 1, 1, 1, 0, 0, 2, 0]), None),
 ];
 
-/// Every set of bits, on a mirror that is all overwritten before.
-fn bits((key, own_mask): (Key, Option<u8>)) -> Vec<Call> {
-    let mut calls = kinds_of_lights();
+/// Every set of bits, on a mirror that is all overwritten before; `calls` make the state.
+pub fn bits(mut calls: Vec<Call>, key: Key, own_mask: Option<u8>) -> Vec<Call> {
     for bits in 0..64 {
         calls.push(Call::plain(Name::TakeFfVsDirty));
         calls.push(mark(bits));

@@ -1,5 +1,6 @@
 //! States that are the same for every seed.
 
+use super::previews::nine;
 use crate::call::{Call, LIGHT};
 use crate::floats::{LARGEST, NAN, ONE, SIGN};
 use crate::states::{LONG, SHORT, directed, enable, set_light, set_material, set_transform};
@@ -11,6 +12,7 @@ pub fn states() -> Vec<Vec<Call>> {
         kinds_of_lights(),
         directions(),
         vec![enable(0, 1), enable(5, 1), enable(70, 1)],
+        nine(),
     ]
 }
 

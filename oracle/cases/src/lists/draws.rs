@@ -22,7 +22,12 @@ impl List<'_> {
 
     pub(super) fn refresh(&mut self) -> Call {
         if self.random.chance(8) {
-            self.change_key();
+            // To a preview or from one, or in more than that.
+            if self.random.chance(3) {
+                self.key.preview = u8::from(self.key.preview == 0);
+            } else {
+                self.change_key();
+            }
             self.owe();
             if let Some(mark) = self.marking() {
                 return mark;

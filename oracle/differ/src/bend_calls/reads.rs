@@ -70,6 +70,7 @@ pub fn read(bend: Bend, call: &Call, mut held: Held<'_>) -> u32 {
         }
         Bend::IsEnabledMask => *number *= 255,
         Bend::SourceTag => *number &= 0x00FF_FFFF,
+        Bend::SourceFour | Bend::MasksFour => *number &= 0xFF0F_0F0F,
         Bend::SourceUnmasked if *number >> 24 == 0 => {
             let raw = (0..8).filter(|&i| image[image::DEFINED] & (1 << i) != 0);
             for i in raw.filter(|&i| image::number32(image, image::slot(i)) == 3) {

@@ -1,13 +1,13 @@
 //! ff_refresh.
 
-use cases::call::Call;
+use cases::call::{Call, Name};
 use cases::floats::with_one_nan;
 use cases::image::{self, number32};
 use cases::key::Key;
 use cases::model::refusal::{TRANSFORMED, WRONG_LENGTH, WRONG_MASK};
 use cases::section::{FIVE_BITS, MIRROR, ROW, Section};
 
-use super::{ACCEPTED, Held, past};
+use super::{ACCEPTED, Held, past, previews};
 use crate::bends::Bend;
 
 /// Document 01's rows of texture transforms, which a refresh leaves alone.
@@ -47,6 +47,8 @@ fn other_key(bend: Bend, call: &Call, held: &Held<'_>) -> Call {
         Bend::RefreshMaskClean if clean(Section::Lights) => key.light_active_mask = 0,
         Bend::RefreshMaskUnlit if key.lighting_enabled == 0 => key.light_active_mask = 0,
         Bend::RefreshRhwLow => key.has_rhw &= 1,
+        Bend::RefreshPreviewIgnored => key.preview = 0,
+        Bend::RefreshPreviewLow => key.preview &= 1,
         _ => {}
     }
     call
@@ -58,7 +60,7 @@ fn instead(bend: Bend, call: &Call, held: &mut Held<'_>) -> Option<u32> {
     if bend == Bend::RefreshLengthBeforeImage && wrong_length {
         return Some(WRONG_LENGTH);
     }
-    let active = held.active()?;
+    let active = held.active(key)?;
     let wrong_mask = key.light_active_mask != 0 && key.light_active_mask != active;
     match bend {
         Bend::RefreshRhwBeforeLength if key.has_rhw != 0 => Some(TRANSFORMED),
@@ -71,6 +73,9 @@ fn instead(bend: Bend, call: &Call, held: &mut Held<'_>) -> Option<u32> {
             let (first, _) = core::mem::take(&mut held.lent.out).split_at_mut(MIRROR);
             held.lent.out = first;
             None
+        }
+        _ if key.preview != 0 && !wrong_length && key.has_rhw == 0 => {
+            previews::instead(bend, key, held)
         }
         _ => None,
     }
@@ -107,13 +112,9 @@ fn after(bend: Bend, key: Key, before: &Before, held: &mut Held<'_>) {
             out.copy_from_slice(&before.mirror);
         }
         // Every section, whatever the bits.
-        Bend::RefreshAlways => {
-            held.lent.image[image::DIRTY] = FIVE_BITS;
-            let bits = *held.lent.number;
-            let again = Call::keyed(cases::call::Name::Refresh, key);
-            held.call(&again);
-            *held.lent.number = bits;
-        }
+        Bend::RefreshAlways => again(key, FIVE_BITS, held),
+        // The lights of a preview, whatever the bits.
+        Bend::RefreshPreviewWrites if key.preview != 0 => again(key, Section::Lights.bit(), held),
         Bend::RefreshWhole => {
             let end = Section::Palette.place(key).end;
             out[end..].fill(0);
@@ -129,8 +130,21 @@ fn after(bend: Bend, key: Key, before: &Before, held: &mut Held<'_>) {
         Bend::RefreshBits => *held.lent.number &= u32::from(FIVE_BITS),
         Bend::RefreshBitsLeft => *held.lent.number = 0,
         Bend::RefreshGuard => past(out),
+        Bend::RefreshPreviewLast
+            if key.preview != 0 && before.bits & Section::Lights.bit() != 0 =>
+        {
+            previews::put_last(held, Section::Lights.place(key));
+        }
         _ => {}
     }
+}
+
+/// Writes the sections that these bits name too.
+fn again(key: Key, bits: u8, held: &mut Held<'_>) {
+    held.lent.image[image::DIRTY] = bits;
+    let taken = *held.lent.number;
+    held.call(&Call::keyed(Name::Refresh, key));
+    *held.lent.number = taken;
 }
 
 /// A section that is written a row below its first.

@@ -7,7 +7,7 @@ use cases::key::Key;
 use cases::model::refusal::{TRANSFORMED, WRONG_LENGTH, WRONG_MASK};
 use cases::section::ROW;
 
-use super::{ACCEPTED, Held, lights, past};
+use super::{ACCEPTED, Held, lights, past, previews};
 use crate::bends::Bend;
 use crate::host;
 
@@ -73,6 +73,21 @@ fn other_key(bend: Bend, key: Key) -> Key {
             vertex_blend_count: key.vertex_blend_count.min(40),
             ..key
         },
+        Bend::CountPreview | Bend::LightsRowsPreview if key.preview != 0 => Key {
+            light_active_mask: key.light_active_mask & 0x0F,
+            ..key
+        },
+        // The two flags in each other's place.
+        Bend::PaletteRowsExchanged | Bend::LightsPreviewExchanged => Key {
+            vertex_blend_indexed: key.preview,
+            preview: key.vertex_blend_indexed,
+            ..key
+        },
+        Bend::LightsPreviewIgnored => Key { preview: 0, ..key },
+        Bend::LightsPreviewLow => Key {
+            preview: key.preview & 1,
+            ..key
+        },
         _ => key,
     }
 }
@@ -80,7 +95,7 @@ fn other_key(bend: Bend, key: Key) -> Key {
 /// An answer that is given before the call is made.
 fn instead(bend: Bend, call: &Call, held: &mut Held<'_>) -> Option<u32> {
     let key = call.key;
-    let active = held.active()?;
+    let active = held.active(key)?;
     let wrong_mask = key.light_active_mask != 0 && key.light_active_mask != active;
     let wrong_length = call.has_wrong_length();
     match bend {
@@ -115,6 +130,7 @@ fn instead(bend: Bend, call: &Call, held: &mut Held<'_>) -> Option<u32> {
         Bend::PaletteForty if key.vertex_blend_count != 0 && key.vertex_blend_indexed != 0 => {
             (wrong_length && held.lent.out.len() == 41 * 4 * ROW).then_some(ACCEPTED)
         }
+        _ if key.preview != 0 && !wrong_length => previews::instead(bend, key, held),
         _ => None,
     }
 }
@@ -185,6 +201,9 @@ fn after(bend: Bend, key: Key, held: &mut Held<'_>) {
             for i in 1..held.lent.out.len() / 64 {
                 held.lent.out.copy_within(0..64, 64 * i);
             }
+        }
+        Bend::LightsPreviewLast if key.preview != 0 => {
+            previews::put_last(held, 0..held.lent.out.len());
         }
         _ => lights::after(bend, held),
     }

@@ -1,5 +1,6 @@
 -- `ff_lights::compacted_light_masks` meets its contract: the masks of the resolved list, whose first `len` lights are the list itself. Assumes nothing.
 use Prim.Native.Nat.{_≤_}
+use native.Mathlib.Nat.{le-refl}
 use mathlib.Core.Path.{_≡_, sym, ap, subst, _∙_}
 use borrow.Author.Needs.{needs}
 use lib.ListN.{length, take}
@@ -16,11 +17,11 @@ active-lights-requires c κs = search needs
 -- the list has at most eight lights, which stand in front
 few : (c : tie.After-active-lights) → c .active-lights .result .len ≤ 8
 unfolding resolveActiveLights activeLights lightActiveMask
-few c = subst (λ (a : ActiveLights). a .len ≤ 8) (sym (c .active-lights .ensures)) (listed-len (activeLights (c .before .before .before .before .args .s)))
+few c = subst (λ (a : ActiveLights). a .len ≤ 8) (sym (c .active-lights .ensures)) (listed-len 8 (le-refl 8) (activeLights (c .before .before .before .before .args .s)))
 
 front : (c : tie.After-active-lights) → take (c .active-lights .result .len) (c .active-lights .result .lights) ≡ take 8 (activeLights (c .before .before .before .before .args .s))
 unfolding resolveActiveLights activeLights lightActiveMask
-front c = ap (λ (a : ActiveLights). take (a .len) (a .lights)) (c .active-lights .ensures) ∙ listed-front (activeLights (c .before .before .before .before .args .s))
+front c = ap (λ (a : ActiveLights). take (a .len) (a .lights)) (c .active-lights .ensures) ∙ listed-front 8 (activeLights (c .before .before .before .before .args .s))
 
 counted : (c : tie.After-active-lights) → c .active-lights .result .len ≡ length (take 8 (activeLights (c .before .before .before .before .args .s)))
 unfolding resolveActiveLights activeLights lightActiveMask listed

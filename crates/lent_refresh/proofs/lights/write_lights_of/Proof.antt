@@ -94,7 +94,7 @@ codeOf σ nm te tk tl tm =
       outlives = [];
       params = 4;
       locals = local tyUnit valueLocal ∷ local (tyRef (named 0) mut nm) valueLocal ∷ local (tyInt w32) valueLocal ∷ local tk valueLocal ∷ local (tyStruct (38 ∷ 91 ∷ 93 ∷ []) (tcons (tyRef (named 1) mut (tyFloat binary32)) (tcons (tyInt w64) tnil))) valueLocal ∷ local tyBool valueLocal ∷ local tyUnit valueLocal ∷ local tm valueLocal ∷ local tl valueLocal ∷ local (tyInt w8) valueLocal ∷ local (tyInt w8) valueLocal ∷ local te valueLocal ∷ local (tyInt w16) valueLocal ∷ local (tyRef erased mut (tyFloat binary32)) valueLocal ∷ local (tyStruct (38 ∷ 91 ∷ 93 ∷ []) (tcons (tyRef erased mut (tyFloat binary32)) (tcons (tyInt w64) tnil))) valueLocal ∷ [];
-      body = seq (call due-def.name (copy (place 2 ([])) ∷ copy (place 3 ([])) ∷ []) (place 5 ([]))) (seq (cond (copy (place 5 ([]))) (seq (assign (place 7 ([])) (rvOpd (copy (place 1 (deref σ ∷ field 0 ∷ []))))) (seq (assign (place 8 ([])) (rvOpd (copy (place 1 (deref σ ∷ field 6 ∷ []))))) (seq (assign (place 9 ([])) (rvOpd (copy (place 1 (deref σ ∷ field 8 ∷ []))))) (seq (assign (place 10 ([])) (rvOpd (copy (place 1 (deref σ ∷ field 7 ∷ []))))) (seq (assign (place 11 ([])) (rvOpd (copy (place 1 (deref σ ∷ field 12 ∷ []))))) (seq (assign (place 12 ([])) (rvOpd (copy (place 1 (deref σ ∷ field 13 ∷ []))))) (seq (assign (place 13 ([])) (addrOf (place 4 (field 0 ∷ deref (tyFloat binary32) ∷ [])))) (seq (assign (place 14 ([])) (aggregate (copy (place 13 ([])) ∷ copy (place 4 (field 1 ∷ [])) ∷ []))) (seq (call writer-def.name (copy (place 7 ([])) ∷ copy (place 8 ([])) ∷ copy (place 9 ([])) ∷ copy (place 10 ([])) ∷ copy (place 11 ([])) ∷ copy (place 12 ([])) ∷ copy (place 14 ([])) ∷ []) (place 6 ([]))) (seq (assign (place 0 ([])) (rvOpd opdUnit)) return)))))))))) skip) (seq (assign (place 0 ([])) (rvOpd opdUnit)) return));
+      body = seq (call due-def.name (copy (place 2 ([])) ∷ copy (place 3 ([])) ∷ []) (place 5 ([]))) (seq (cond (copy (place 5 ([]))) (seq (assign (place 7 ([])) (rvOpd (copy (place 1 (deref σ ∷ field 0 ∷ []))))) (seq (assign (place 8 ([])) (rvOpd (copy (place 1 (deref σ ∷ field 6 ∷ []))))) (seq (assign (place 9 ([])) (rvOpd (copy (place 1 (deref σ ∷ field 8 ∷ []))))) (seq (assign (place 10 ([])) (rvOpd (copy (place 1 (deref σ ∷ field 7 ∷ []))))) (seq (assign (place 11 ([])) (rvOpd (copy (place 1 (deref σ ∷ field 12 ∷ []))))) (seq (assign (place 12 ([])) (rvOpd (copy (place 1 (deref σ ∷ field 13 ∷ []))))) (seq (assign (place 13 ([])) (addrOf (place 4 (field 0 ∷ deref (tyFloat binary32) ∷ [])))) (seq (assign (place 14 ([])) (aggregate (copy (place 13 ([])) ∷ copy (place 4 (field 1 ∷ [])) ∷ []))) (seq (call writer-def.name (copy (place 7 ([])) ∷ copy (place 3 ([])) ∷ copy (place 8 ([])) ∷ copy (place 9 ([])) ∷ copy (place 10 ([])) ∷ copy (place 11 ([])) ∷ copy (place 12 ([])) ∷ copy (place 14 ([])) ∷ []) (place 6 ([]))) (seq (assign (place 0 ([])) (rvOpd opdUnit)) return)))))))))) skip) (seq (assign (place 0 ([])) (rvOpd opdUnit)) return));
     }
 
 abbrev Due : {M : Type 1} (𝓤 : URA M) (H : Heap 𝓤) (A : Atoms 𝓤) (mem : Memory → SProp 𝓤) (run : Routine → Fun 𝓤) → Contract 𝓤
@@ -212,11 +212,11 @@ module _ {M : Type 1} (𝓤 : URA M) (H : Heap 𝓤) (A : Atoms 𝓤) (W : Given
       done !))))
 
   abbrev After-writer : ℕ → List Float → Val → SProp 𝓤
-  After-writer n l v = H .⇛ (ex 𝓤 (λ (p : List Float). sep 𝓤 (⋆ 𝓤 H A (raw (Mirror 𝓤 H A κ′ q′ b′ o′ γ′ (n) (p)) ∷ [])) (fact 𝓤 ((v ≡ vunit) × (((p) ≡ put 60 (floats (lightsRows (h .view) (partLights (h .lights) (h .«light_set_mask») (h .«light_enabled») (h .«overflow_lights») (h .«overflow_count»)))) l) × (length (p) ≡ n))))))
+  After-writer n l v = H .⇛ (ex 𝓤 (λ (p : List Float). sep 𝓤 (⋆ 𝓤 H A (raw (Mirror 𝓤 H A κ′ q′ b′ o′ γ′ (n) (p)) ∷ [])) (fact 𝓤 ((v ≡ vunit) × (((p) ≡ put 60 (floats (lightsRows (h .view) (partLights k (h .lights) (h .«light_set_mask») (h .«light_enabled») (h .«overflow_lights») (h .«overflow_count»)))) l) × (length (p) ≡ n))))))
 
   module _ (l : List Float) (ν′ : ℕ) (δ′ : GName) where
     abbrev to-writer : Writer 𝓤 H A at-mem run .Ghost
-    to-writer = (((ν′ ∷ [], tt), (fullShare, tt), tt, (h .view, (h .lights, (h .«light_set_mask», (h .«light_enabled», (h .«overflow_lights», (h .«overflow_count», (at-ref b′ o′ δ′ l, tt))))))), (part 0 h ∷ [], (part 6 h ∷ [], (part 8 h ∷ [], (part 7 h ∷ [], (part 12 h ∷ [], (part 13 h ∷ [], (sliceVal (b′, o′) (length l) ∷ [], tt)))))))), tt)
+    to-writer = (((ν′ ∷ [], tt), (fullShare, tt), tt, (h .view, (k, (h .lights, (h .«light_set_mask», (h .«light_enabled», (h .«overflow_lights», (h .«overflow_count», (at-ref b′ o′ δ′ l, tt)))))))), (part 0 h ∷ [], (keyVal k ∷ [], (part 6 h ∷ [], (part 8 h ∷ [], (part 7 h ∷ [], (part 12 h ∷ [], (part 13 h ∷ [], (sliceVal (b′, o′) (length l) ∷ [], tt))))))))), tt)
 
   goes-writer : (l : List Float) (ν′ : ℕ) (δ′ : GName) → length l ≡ 4460 → IsState h → ent 𝓤 (⋆ 𝓤 H A (‵ (flft (ν′ ∷ []) fullShare) ∷ ‵ (MutSlice (named 1) (ν′ ∷ []) f32 .own (at-ref b′ o′ δ′ l) (sliceVal (b′, o′) (length l) ∷ [])) ∷ [])) (Writer 𝓤 H A at-mem run .pre (to-writer l ν′ δ′))
   goes-writer l ν′ δ′ long was =
@@ -239,6 +239,8 @@ module _ {M : Type 1} (𝓤 : URA M) (H : Heap 𝓤) (A : Atoms 𝓤) (W : Given
       fjoin ! $
       owned ! (Array Lt.the-row 8) (Is (Array Lt.the-row 8)) (array-makes 𝓤 H A W Lt.the-row (LL.makes Lt.the-type Lt′.the-plain 𝓤 H A) 8) (h .lights) _ (lights-are h was) $
       fjoin ! $
+      owned ! Ky.the-row (Is Ky.the-row) (LL.makes Ky.the-type Ky′.the-plain 𝓤 H A) (k) _ (k-is) $
+      fjoin ! $
       owned ! Mx.the-row (Is Mx.the-row) (LL.makes Mx.the-type Mx′.the-plain 𝓤 H A) (h .view) _ (view-is h was) $
       fjoin ! $
       done !
@@ -247,9 +249,11 @@ module _ {M : Type 1} (𝓤 : URA M) (H : Heap 𝓤) (A : Atoms 𝓤) (W : Given
   unfolding Mirror
   back-writer l room ν′ δ′ v =
       qed W (raw (Writer 𝓤 H A at-mem run .post (to-writer l ν′ δ′) v) ∷ ‵ (Slices.LentAgain f32 κ′ (ν′ ∷ []) q′ γ′ b′ o′ δ′ l) ∷ []) ∵ updating ! $
-      use1 W (later (some (λ (r : Unit {0}). ((‵ (flft (ν′ ∷ []) fullShare) ⊛ ‵ ftrue) ⊛ ‵ (unit .own r (v ∷ []))) ⊛ raw (ensured 𝓤 H A writer.ended (writer.clauses 𝓤 H A at-mem run) (ν′ ∷ [], tt) (h .view, (h .lights, (h .«light_set_mask», (h .«light_enabled», (h .«overflow_lights», (h .«overflow_count», (at-ref b′ o′ δ′ l, tt))))))) tt r)))) (id⊢ 𝓤 _) $ await ! tt $ pick ! (λ r.
-      split ! $ move ! (1 ∷ []) $ use1 W (some (λ (ws : Unit {0} × (Unit {0} × (Unit {0} × (Unit {0} × (Unit {0} × (Unit {0} × (List Float × (Unit {0})))))))). ‵ (lasts writer.ended (ν′ ∷ [], tt) (h .view, (h .lights, (h .«light_set_mask», (h .«light_enabled», (h .«overflow_lights», (h .«overflow_count», (at-ref b′ o′ δ′ l, tt))))))) ws) ⊛ raw (fact 𝓤 (ws .1 .1 .1 .1 .1 .1 .0 ≡ put 60 (floats (lightsRows (h .view) (partLights (h .lights) (h .«light_set_mask») (h .«light_enabled») (h .«overflow_lights») (h .«overflow_count»)))) l)))) (id⊢ 𝓤 _) $ pick ! (λ ws.
-      split ! $ move ! (1 ∷ []) $ heard ! (ws .1 .1 .1 .1 .1 .1 .0 ≡ put 60 (floats (lightsRows (h .view) (partLights (h .lights) (h .«light_set_mask») (h .«light_enabled») (h .«overflow_lights») (h .«overflow_count»)))) l) (λ e.
+      use1 W (later (some (λ (r : Unit {0}). ((‵ (flft (ν′ ∷ []) fullShare) ⊛ ‵ ftrue) ⊛ ‵ (unit .own r (v ∷ []))) ⊛ raw (ensured 𝓤 H A writer.ended (writer.clauses 𝓤 H A at-mem run) (ν′ ∷ [], tt) (h .view, (k, (h .lights, (h .«light_set_mask», (h .«light_enabled», (h .«overflow_lights», (h .«overflow_count», (at-ref b′ o′ δ′ l, tt)))))))) tt r)))) (id⊢ 𝓤 _) $ await ! tt $ pick ! (λ r.
+      split ! $ move ! (1 ∷ []) $ use1 W (some (λ (ws : Unit {0} × (Unit {0} × (Unit {0} × (Unit {0} × (Unit {0} × (Unit {0} × (Unit {0} × (List Float × (Unit {0}))))))))). ‵ (lasts writer.ended (ν′ ∷ [], tt) (h .view, (k, (h .lights, (h .«light_set_mask», (h .«light_enabled», (h .«overflow_lights», (h .«overflow_count», (at-ref b′ o′ δ′ l, tt)))))))) ws) ⊛ raw (fact 𝓤 (ws .1 .1 .1 .1 .1 .1 .1 .0 ≡ put 60 (floats (lightsRows (h .view) (partLights k (h .lights) (h .«light_set_mask») (h .«light_enabled») (h .«overflow_lights») (h .«overflow_count»)))) l)))) (id⊢ 𝓤 _) $ pick ! (λ ws.
+      split ! $ move ! (1 ∷ []) $ heard ! (ws .1 .1 .1 .1 .1 .1 .1 .0 ≡ put 60 (floats (lightsRows (h .view) (partLights k (h .lights) (h .«light_set_mask») (h .«light_enabled») (h .«overflow_lights») (h .«overflow_count»)))) l) (λ e.
+      fsplit ! $
+      drop ! $
       fsplit ! $
       drop ! $
       fsplit ! $
@@ -277,9 +281,9 @@ module _ {M : Type 1} (𝓤 : URA M) (H : Heap 𝓤) (A : Atoms 𝓤) (W : Given
       drop ! $
       lft-end ! tt $
       move ! (0 ∷ 2 ∷ 1 ∷ []) $
-      use3 W (later (‵ (MutSlice (named 1) κ′ f32 .own (at-ref b′ o′ γ′ (ws .1 .1 .1 .1 .1 .1 .0)) (sliceVal (b′, o′) (length l) ∷ [])) ⊛ ‵ (flft κ′ q′))) (Slices.comes-back f32 κ′ (ν′ ∷ []) q′ γ′ b′ o′ 𝓤 H A W (named 1) (named 1) l δ′ (ws .1 .1 .1 .1 .1 .1 .0) room same) $ await ! tt $ split ! $
+      use3 W (later (‵ (MutSlice (named 1) κ′ f32 .own (at-ref b′ o′ γ′ (ws .1 .1 .1 .1 .1 .1 .1 .0)) (sliceVal (b′, o′) (length l) ∷ [])) ⊛ ‵ (flft κ′ q′))) (Slices.comes-back f32 κ′ (ν′ ∷ []) q′ γ′ b′ o′ 𝓤 H A W (named 1) (named 1) l δ′ (ws .1 .1 .1 .1 .1 .1 .1 .0) room same) $ await ! tt $ split ! $
       group ! 2 $
-      kit.now ! $ show ! (λ (p : List Float). sep 𝓤 (⋆ 𝓤 H A (raw (Mirror 𝓤 H A κ′ q′ b′ o′ γ′ (length l) (p)) ∷ [])) (fact 𝓤 ((v ≡ vunit) × (((p) ≡ put 60 (floats (lightsRows (h .view) (partLights (h .lights) (h .«light_set_mask») (h .«light_enabled») (h .«overflow_lights») (h .«overflow_count»)))) l) × (length (p) ≡ length l))))) (ws .1 .1 .1 .1 .1 .1 .0) $ says ! ((ap only (nothing-tells r _ is), (e, same))) $
+      kit.now ! $ show ! (λ (p : List Float). sep 𝓤 (⋆ 𝓤 H A (raw (Mirror 𝓤 H A κ′ q′ b′ o′ γ′ (length l) (p)) ∷ [])) (fact 𝓤 ((v ≡ vunit) × (((p) ≡ put 60 (floats (lightsRows (h .view) (partLights k (h .lights) (h .«light_set_mask») (h .«light_enabled») (h .«overflow_lights») (h .«overflow_count»)))) l) × (length (p) ≡ length l))))) (ws .1 .1 .1 .1 .1 .1 .1 .0) $ says ! ((ap only (nothing-tells r _ is), (e, same))) $
       keep ! (0 ∷ []) $
       done !)))))
 
@@ -292,7 +296,7 @@ module _ {M : Type 1} (𝓤 : URA M) (H : Heap 𝓤) (A : Atoms 𝓤) (W : Given
         nothing ! $ move ! (1 ∷ 0 ∷ []) $
         kit.now ! $ by ! (fm due-def.name (vint w32 n ∷ keyVal k ∷ []) (Due 𝓤 H A at-mem run .post to-due) (After-due) (emp 𝓤) (back-due))
 
-    calls-writer-at : (l : List Float) → Room f32 (length l) → length l ≡ 4460 → IsState h → ent 𝓤 (⋆ 𝓤 H A (raw (Mirror 𝓤 H A κ′ q′ b′ o′ γ′ (length l) (l)) ∷ [])) (H .⇛ (C writer-def.name (part 0 h ∷ part 6 h ∷ part 8 h ∷ part 7 h ∷ part 12 h ∷ part 13 h ∷ sliceVal (b′, o′) (length l) ∷ []) (After-writer (length l) (l))))
+    calls-writer-at : (l : List Float) → Room f32 (length l) → length l ≡ 4460 → IsState h → ent 𝓤 (⋆ 𝓤 H A (raw (Mirror 𝓤 H A κ′ q′ b′ o′ γ′ (length l) (l)) ∷ [])) (H .⇛ (C writer-def.name (part 0 h ∷ keyVal k ∷ part 6 h ∷ part 8 h ∷ part 7 h ∷ part 12 h ∷ part 13 h ∷ sliceVal (b′, o′) (length l) ∷ []) (After-writer (length l) (l))))
     unfolding Mirror
     calls-writer-at l room long was =
         qed W ((‵ (MutSlice (named 1) κ′ f32 .own (at-ref b′ o′ γ′ (l)) (sliceVal (b′, o′) (length l) ∷ [])) ⊛ ‵ (flft κ′ q′)) ∷ []) ∵ updating ! $
@@ -302,12 +306,12 @@ module _ {M : Type 1} (𝓤 : URA M) (H : Heap 𝓤) (A : Atoms 𝓤) (W : Given
         use2 W (later (some (λ (δ′ : GName). ‵ (MutSlice (named 1) (ν′ ∷ []) f32 .own (at-ref b′ o′ δ′ l) (sliceVal (b′, o′) (length l) ∷ [])) ⊛ ‵ (Slices.LentAgain f32 κ′ (ν′ ∷ []) q′ γ′ b′ o′ δ′ l)))) (Slices.lends-again f32 κ′ (ν′ ∷ []) q′ γ′ b′ o′ 𝓤 H A W (named 1) (named 1) l) $ await ! tt $ pick ! (λ δ′. split ! $
         move ! (2 ∷ 0 ∷ []) $
         group ! 2 $ use1 W (raw (Writer 𝓤 H A at-mem run .pre (to-writer l ν′ δ′))) (goes-writer l ν′ δ′ long was) $
-        use1 W (raw (C writer-def.name (part 0 h ∷ part 6 h ∷ part 8 h ∷ part 7 h ∷ part 12 h ∷ part 13 h ∷ sliceVal (b′, o′) (length l) ∷ []) (Writer 𝓤 H A at-mem run .post (to-writer l ν′ δ′)))) (known-writer (to-writer l ν′ δ′)) $
+        use1 W (raw (C writer-def.name (part 0 h ∷ keyVal k ∷ part 6 h ∷ part 8 h ∷ part 7 h ∷ part 12 h ∷ part 13 h ∷ sliceVal (b′, o′) (length l) ∷ []) (Writer 𝓤 H A at-mem run .post (to-writer l ν′ δ′)))) (known-writer (to-writer l ν′ δ′)) $
         keep ! (0 ∷ 1 ∷ []) $
-        kit.now ! $ by ! (fm writer-def.name (part 0 h ∷ part 6 h ∷ part 8 h ∷ part 7 h ∷ part 12 h ∷ part 13 h ∷ sliceVal (b′, o′) (length l) ∷ []) (Writer 𝓤 H A at-mem run .post (to-writer l ν′ δ′)) (After-writer (length l) l) (⋆ 𝓤 H A (‵ (Slices.LentAgain f32 κ′ (ν′ ∷ []) q′ γ′ b′ o′ δ′ l) ∷ [])) (back-writer l room ν′ δ′))))
+        kit.now ! $ by ! (fm writer-def.name (part 0 h ∷ keyVal k ∷ part 6 h ∷ part 8 h ∷ part 7 h ∷ part 12 h ∷ part 13 h ∷ sliceVal (b′, o′) (length l) ∷ []) (Writer 𝓤 H A at-mem run .post (to-writer l ν′ δ′)) (After-writer (length l) l) (⋆ 𝓤 H A (‵ (Slices.LentAgain f32 κ′ (ν′ ∷ []) q′ γ′ b′ o′ δ′ l) ∷ [])) (back-writer l room ν′ δ′))))
 
-    calls-writer : (n : ℕ) (l : List Float) → length l ≡ n → Room f32 n → length l ≡ 4460 → IsState h → ent 𝓤 (⋆ 𝓤 H A (raw (Mirror 𝓤 H A κ′ q′ b′ o′ γ′ (n) (l)) ∷ [])) (H .⇛ (C writer-def.name (part 0 h ∷ part 6 h ∷ part 8 h ∷ part 7 h ∷ part 12 h ∷ part 13 h ∷ sliceVal (b′, o′) (n) ∷ []) (After-writer (n) (l))))
-    calls-writer n l same room long was = subst (λ (m : ℕ). ent 𝓤 (⋆ 𝓤 H A (raw (Mirror 𝓤 H A κ′ q′ b′ o′ γ′ (m) (l)) ∷ [])) (H .⇛ (C writer-def.name (part 0 h ∷ part 6 h ∷ part 8 h ∷ part 7 h ∷ part 12 h ∷ part 13 h ∷ sliceVal (b′, o′) (m) ∷ []) (After-writer (m) (l))))) same (calls-writer-at l (subst (Room f32) (sym same) room) long was)
+    calls-writer : (n : ℕ) (l : List Float) → length l ≡ n → Room f32 n → length l ≡ 4460 → IsState h → ent 𝓤 (⋆ 𝓤 H A (raw (Mirror 𝓤 H A κ′ q′ b′ o′ γ′ (n) (l)) ∷ [])) (H .⇛ (C writer-def.name (part 0 h ∷ keyVal k ∷ part 6 h ∷ part 8 h ∷ part 7 h ∷ part 12 h ∷ part 13 h ∷ sliceVal (b′, o′) (n) ∷ []) (After-writer (n) (l))))
+    calls-writer n l same room long was = subst (λ (m : ℕ). ent 𝓤 (⋆ 𝓤 H A (raw (Mirror 𝓤 H A κ′ q′ b′ o′ γ′ (m) (l)) ∷ [])) (H .⇛ (C writer-def.name (part 0 h ∷ keyVal k ∷ part 6 h ∷ part 8 h ∷ part 7 h ∷ part 12 h ∷ part 13 h ∷ sliceVal (b′, o′) (m) ∷ []) (After-writer (m) (l))))) same (calls-writer-at l (subst (Room f32) (sym same) room) long was)
 
   opening : ent 𝓤 (Shut 𝓤 H A κ q b o γ (h)) (H .⇛ (sep 𝓤 (sep 𝓤 (H .at fullShare St′.mir b o (openVal h)) (Wide 𝓤 H A κ q b o γ h)) (fact 𝓤 (IsState h))))
   opening = unlock 𝓤 H A κ q b o γ W h
@@ -315,7 +319,7 @@ module _ {M : Type 1} (𝓤 : URA M) (H : Heap 𝓤) (A : Atoms 𝓤) (W : Given
   shutting : IsState h → ent 𝓤 (sep 𝓤 (H .at fullShare St′.mir b o (openVal h)) (Wide 𝓤 H A κ q b o γ h)) (H .⇛ (Shut 𝓤 H A κ q b o γ (h)))
   shutting was = lock 𝓤 H A κ q b o γ W h (h) (openVal h) (sym (by-fields h)) (was)
 
-  module _ (Post : Val → SProp 𝓤) (leaves : (z : FfState) (zs : List Float) → z ≡ h → zs ≡ writtenSection Lights n h k ys → length zs ≡ length ys → ent 𝓤 (⋆ 𝓤 H A (raw (Shut 𝓤 H A κ q b o γ (z)) ∷ raw (Mirror 𝓤 H A κ′ q′ b′ o′ γ′ (length ys) (zs)) ∷ [])) (Post (vunit))) (C : Calls 𝓤 H) (Λ : Loops 𝓤 H) (fm : FmC 𝓤 H (W .laws) C) (calls-due : ent 𝓤 (emp 𝓤) (H .⇛ (C due-def.name (vint w32 n ∷ keyVal k ∷ []) (After-due)))) (calls-writer : (n : ℕ) (l : List Float) → length l ≡ n → Room f32 n → length l ≡ 4460 → IsState h → ent 𝓤 (⋆ 𝓤 H A (raw (Mirror 𝓤 H A κ′ q′ b′ o′ γ′ (n) (l)) ∷ [])) (H .⇛ (C writer-def.name (part 0 h ∷ part 6 h ∷ part 8 h ∷ part 7 h ∷ part 12 h ∷ part 13 h ∷ sliceVal (b′, o′) (n) ∷ []) (After-writer (n) (l))))) (ν : Sym) (τs : Tys) (nm te tk tl tm : Ty) (key-typed′ : (k : FfVsKey) → IsKey k → T (hasTy tk (keyVal k)) × WT (keyVal k)) {d₀ : ℕ} (f₀ : fieldAt 0 τs 0 ≡ option.some (tm, d₀)) (view-typed′ : IsState h → T (hasTy (tm) (part 0 h)) × WT (part 0 h)) {d₆ : ℕ} (f₆ : fieldAt 0 τs 6 ≡ option.some (tl, d₆)) (lights-typed′ : IsState h → T (hasTy (tl) (part 6 h)) × WT (part 6 h)) {d₈ : ℕ} (f₈ : fieldAt 0 τs 8 ≡ option.some (tyInt w8, d₈)) (set-typed′ : IsState h → T (hasTy (tyInt w8) (part 8 h)) × WT (part 8 h)) {d₇ : ℕ} (f₇ : fieldAt 0 τs 7 ≡ option.some (tyInt w8, d₇)) (enabled-typed′ : IsState h → T (hasTy (tyInt w8) (part 7 h)) × WT (part 7 h)) {d₁₂ : ℕ} (f₁₂ : fieldAt 0 τs 12 ≡ option.some (te, d₁₂)) (entries-typed′ : IsState h → T (hasTy (te) (part 12 h)) × WT (part 12 h)) {d₁₃ : ℕ} (f₁₃ : fieldAt 0 τs 13 ≡ option.some (tyInt w16, d₁₃)) (count-typed′ : IsState h → T (hasTy (tyInt w16) (part 13 h)) × WT (part 13 h)) (open-it : ent 𝓤 (Shut 𝓤 H A κ q b o γ (h)) (H .⇛ (sep 𝓤 (sep 𝓤 (H .at fullShare (tyStruct ν τs) b o (openVal h)) (Wide 𝓤 H A κ q b o γ h)) (fact 𝓤 (IsState h))))) (shut-it : IsState h → ent 𝓤 (sep 𝓤 (H .at fullShare (tyStruct ν τs) b o (openVal h)) (Wide 𝓤 H A κ q b o γ h)) (H .⇛ (Shut 𝓤 H A κ q b o γ (h)))) where
+  module _ (Post : Val → SProp 𝓤) (leaves : (z : FfState) (zs : List Float) → z ≡ h → zs ≡ writtenSection Lights n h k ys → length zs ≡ length ys → ent 𝓤 (⋆ 𝓤 H A (raw (Shut 𝓤 H A κ q b o γ (z)) ∷ raw (Mirror 𝓤 H A κ′ q′ b′ o′ γ′ (length ys) (zs)) ∷ [])) (Post (vunit))) (C : Calls 𝓤 H) (Λ : Loops 𝓤 H) (fm : FmC 𝓤 H (W .laws) C) (calls-due : ent 𝓤 (emp 𝓤) (H .⇛ (C due-def.name (vint w32 n ∷ keyVal k ∷ []) (After-due)))) (calls-writer : (n : ℕ) (l : List Float) → length l ≡ n → Room f32 n → length l ≡ 4460 → IsState h → ent 𝓤 (⋆ 𝓤 H A (raw (Mirror 𝓤 H A κ′ q′ b′ o′ γ′ (n) (l)) ∷ [])) (H .⇛ (C writer-def.name (part 0 h ∷ keyVal k ∷ part 6 h ∷ part 8 h ∷ part 7 h ∷ part 12 h ∷ part 13 h ∷ sliceVal (b′, o′) (n) ∷ []) (After-writer (n) (l))))) (ν : Sym) (τs : Tys) (nm te tk tl tm : Ty) (key-typed′ : (k : FfVsKey) → IsKey k → T (hasTy tk (keyVal k)) × WT (keyVal k)) {d₀ : ℕ} (f₀ : fieldAt 0 τs 0 ≡ option.some (tm, d₀)) (view-typed′ : IsState h → T (hasTy (tm) (part 0 h)) × WT (part 0 h)) {d₆ : ℕ} (f₆ : fieldAt 0 τs 6 ≡ option.some (tl, d₆)) (lights-typed′ : IsState h → T (hasTy (tl) (part 6 h)) × WT (part 6 h)) {d₈ : ℕ} (f₈ : fieldAt 0 τs 8 ≡ option.some (tyInt w8, d₈)) (set-typed′ : IsState h → T (hasTy (tyInt w8) (part 8 h)) × WT (part 8 h)) {d₇ : ℕ} (f₇ : fieldAt 0 τs 7 ≡ option.some (tyInt w8, d₇)) (enabled-typed′ : IsState h → T (hasTy (tyInt w8) (part 7 h)) × WT (part 7 h)) {d₁₂ : ℕ} (f₁₂ : fieldAt 0 τs 12 ≡ option.some (te, d₁₂)) (entries-typed′ : IsState h → T (hasTy (te) (part 12 h)) × WT (part 12 h)) {d₁₃ : ℕ} (f₁₃ : fieldAt 0 τs 13 ≡ option.some (tyInt w16, d₁₃)) (count-typed′ : IsState h → T (hasTy (tyInt w16) (part 13 h)) × WT (part 13 h)) (open-it : ent 𝓤 (Shut 𝓤 H A κ q b o γ (h)) (H .⇛ (sep 𝓤 (sep 𝓤 (H .at fullShare (tyStruct ν τs) b o (openVal h)) (Wide 𝓤 H A κ q b o γ h)) (fact 𝓤 (IsState h))))) (shut-it : IsState h → ent 𝓤 (sep 𝓤 (H .at fullShare (tyStruct ν τs) b o (openVal h)) (Wide 𝓤 H A κ q b o γ h)) (H .⇛ (Shut 𝓤 H A κ q b o γ (h)))) where
     walk : length ys ≡ 4460 → ent 𝓤 (⋆ 𝓤 H A (raw (Shut 𝓤 H A κ q b o γ (h)) ∷ raw (Mirror 𝓤 H A κ′ q′ b′ o′ γ′ (length ys) (ys)) ∷ [])) (WpFn 𝓤 H C Λ (codeOf (tyStruct ν τs) nm te tk tl tm) (vptr b o ∷ vint w32 n ∷ keyVal k ∷ mirrorVal ∷ []) Post)
     walk long =
         qed W (raw (Shut 𝓤 H A κ q b o γ (h)) ∷ raw (Mirror 𝓤 H A κ′ q′ b′ o′ γ′ (length ys) (ys)) ∷ []) ∵
@@ -344,10 +348,10 @@ module _ {M : Type 1} (𝓤 : URA M) (H : Heap 𝓤) (A : Atoms 𝓤) (W : Given
         assigns ! (agg ! (and-then ! (load ! (from ! (stop !)) (look ! 4 refl)) (and-then ! (load ! (from ! (fld ! refl (stop !))) (look-in ! 22 (sub ! 1 refl (whole !)))) (no-more !)))) (from ! (stop !)) (init ! 2 refl (tt, (tt, (record { fits = room .0 }, tt)))) $
         use2 W (later (raw (Shut 𝓤 H A κ q b o γ (h)))) (shut-it was) $ await ! tt $
         move ! (31 ∷ []) $
-        use1 W (later (raw (C writer-def.name (part 0 h ∷ part 6 h ∷ part 8 h ∷ part 7 h ∷ part 12 h ∷ part 13 h ∷ sliceVal (b′, o′) (length ys) ∷ []) (After-writer (length ys) (ys))))) (calls-writer (length ys) (ys) (refl) room long was) $ await ! tt $
-        calls-from ! fm (raw (C writer-def.name (part 0 h ∷ part 6 h ∷ part 8 h ∷ part 7 h ∷ part 12 h ∷ part 13 h ∷ sliceVal (b′, o′) (length ys) ∷ []) (After-writer (length ys) (ys)))) (part 0 h ∷ part 6 h ∷ part 8 h ∷ part 7 h ∷ part 12 h ∷ part 13 h ∷ sliceVal (b′, o′) (length ys) ∷ []) (After-writer (length ys) (ys)) (id⊢ 𝓤 _) (and-then ! (load ! (from ! (stop !)) (look ! 16 refl)) (and-then ! (load ! (from ! (stop !)) (look ! 14 refl)) (and-then ! (load ! (from ! (stop !)) (look ! 12 refl)) (and-then ! (load ! (from ! (stop !)) (look ! 10 refl)) (and-then ! (load ! (from ! (stop !)) (look ! 8 refl)) (and-then ! (load ! (from ! (stop !)) (look ! 6 refl)) (and-then ! (load ! (from ! (stop !)) (look ! 2 refl)) (no-more !)))))))) (λ vp.
-        use1 W (later (some (λ (p : List Float). (raw (Mirror 𝓤 H A κ′ q′ b′ o′ γ′ (length ys) (p))) ⊛ raw (fact 𝓤 ((vp ≡ vunit) × (((p) ≡ put 60 (floats (lightsRows (h .view) (partLights (h .lights) (h .«light_set_mask») (h .«light_enabled») (h .«overflow_lights») (h .«overflow_count»)))) ys) × (length (p) ≡ length ys))))))) (id⊢ 𝓤 _) $ await ! tt $ pick ! (λ p.
-        split ! $ move ! (1 ∷ []) $ heard ! ((vp ≡ vunit) × (((p) ≡ put 60 (floats (lightsRows (h .view) (partLights (h .lights) (h .«light_set_mask») (h .«light_enabled») (h .«overflow_lights») (h .«overflow_count»)))) ys) × (length (p) ≡ length ys))) (λ ep.
+        use1 W (later (raw (C writer-def.name (part 0 h ∷ keyVal k ∷ part 6 h ∷ part 8 h ∷ part 7 h ∷ part 12 h ∷ part 13 h ∷ sliceVal (b′, o′) (length ys) ∷ []) (After-writer (length ys) (ys))))) (calls-writer (length ys) (ys) (refl) room long was) $ await ! tt $
+        calls-from ! fm (raw (C writer-def.name (part 0 h ∷ keyVal k ∷ part 6 h ∷ part 8 h ∷ part 7 h ∷ part 12 h ∷ part 13 h ∷ sliceVal (b′, o′) (length ys) ∷ []) (After-writer (length ys) (ys)))) (part 0 h ∷ keyVal k ∷ part 6 h ∷ part 8 h ∷ part 7 h ∷ part 12 h ∷ part 13 h ∷ sliceVal (b′, o′) (length ys) ∷ []) (After-writer (length ys) (ys)) (id⊢ 𝓤 _) (and-then ! (load ! (from ! (stop !)) (look ! 16 refl)) (and-then ! (load ! (from ! (stop !)) (look ! 24 refl)) (and-then ! (load ! (from ! (stop !)) (look ! 14 refl)) (and-then ! (load ! (from ! (stop !)) (look ! 12 refl)) (and-then ! (load ! (from ! (stop !)) (look ! 10 refl)) (and-then ! (load ! (from ! (stop !)) (look ! 8 refl)) (and-then ! (load ! (from ! (stop !)) (look ! 6 refl)) (and-then ! (load ! (from ! (stop !)) (look ! 2 refl)) (no-more !))))))))) (λ vp.
+        use1 W (later (some (λ (p : List Float). (raw (Mirror 𝓤 H A κ′ q′ b′ o′ γ′ (length ys) (p))) ⊛ raw (fact 𝓤 ((vp ≡ vunit) × (((p) ≡ put 60 (floats (lightsRows (h .view) (partLights k (h .lights) (h .«light_set_mask») (h .«light_enabled») (h .«overflow_lights») (h .«overflow_count»)))) ys) × (length (p) ≡ length ys))))))) (id⊢ 𝓤 _) $ await ! tt $ pick ! (λ p.
+        split ! $ move ! (1 ∷ []) $ heard ! ((vp ≡ vunit) × (((p) ≡ put 60 (floats (lightsRows (h .view) (partLights k (h .lights) (h .«light_set_mask») (h .«light_enabled») (h .«overflow_lights») (h .«overflow_count»)))) ys) × (length (p) ≡ length ys))) (λ ep.
         land ! (from ! (stop !)) (init ! 18 refl (subst (λ (w : Val). T (hasTy (tyUnit) w) × WT w) (sym (ep .0)) (tt, tt))) $
         rewrite ! 18 (λ (w : Val). ‵ (fat fullShare (tyUnit) l₆ 0 w)) (ep .0) refl $
         assigns ! (of-opd ! (unit-lit !)) (from ! (stop !)) (init ! 30 refl (tt, tt)) $

@@ -181,7 +181,7 @@ module _ {M : Type 1} (𝓤 : URA M) (H : Heap 𝓤) (A : Atoms 𝓤) (W : Given
       done !))))
 
   abbrev After-mask : Val → SProp 𝓤
-  After-mask v = H .⇛ (ex 𝓤 (λ (p : ℕ). sep 𝓤 (emp 𝓤) (fact 𝓤 (((v ≡ vint w32 (p)) × ((p) < 2 ^ 32)) × (p ≡ maskNumber k (partLights (h .lights) (h .«light_set_mask») (h .«light_enabled») (h .«overflow_lights») (h .«overflow_count»)))))))
+  After-mask v = H .⇛ (ex 𝓤 (λ (p : ℕ). sep 𝓤 (emp 𝓤) (fact 𝓤 (((v ≡ vint w32 (p)) × ((p) < 2 ^ 32)) × (p ≡ maskNumber k (partLights k (h .lights) (h .«light_set_mask») (h .«light_enabled») (h .«overflow_lights») (h .«overflow_count»)))))))
 
   abbrev to-mask : Mask 𝓤 H A at-mem run .Ghost
   to-mask = ((tt, tt, tt, (k, (h .lights, (h .«light_set_mask», (h .«light_enabled», (h .«overflow_lights», (h .«overflow_count», tt)))))), (keyVal k ∷ [], (part 6 h ∷ [], (part 8 h ∷ [], (part 7 h ∷ [], (part 12 h ∷ [], (part 13 h ∷ [], tt))))))), tt)
@@ -213,14 +213,14 @@ module _ {M : Type 1} (𝓤 : URA M) (H : Heap 𝓤) (A : Atoms 𝓤) (W : Given
   back-mask v =
       qed W (raw (Mask 𝓤 H A at-mem run .post to-mask v) ∷ ‵ ftrue ∷ []) ∵ updating ! $
       use1 W (later (some (λ (r : ℕ). (‵ ftrue ⊛ ‵ (u32 .own r (v ∷ []))) ⊛ raw (ensured 𝓤 H A mask.ended (mask.clauses 𝓤 H A at-mem run) tt (k, (h .lights, (h .«light_set_mask», (h .«light_enabled», (h .«overflow_lights», (h .«overflow_count», tt)))))) tt r)))) (id⊢ 𝓤 _) $ await ! tt $ pick ! (λ r.
-      split ! $ move ! (1 ∷ []) $ use1 W (some (λ (ws : Unit {0} × (Unit {0} × (Unit {0} × (Unit {0} × (Unit {0} × (Unit {0} × (Unit {0}))))))). ‵ (lasts mask.ended tt (k, (h .lights, (h .«light_set_mask», (h .«light_enabled», (h .«overflow_lights», (h .«overflow_count», tt)))))) ws) ⊛ raw (fact 𝓤 (r ≡ maskNumber k (partLights (h .lights) (h .«light_set_mask») (h .«light_enabled») (h .«overflow_lights») (h .«overflow_count»)))))) (id⊢ 𝓤 _) $ pick ! (λ ws.
-      split ! $ move ! (1 ∷ []) $ heard ! (r ≡ maskNumber k (partLights (h .lights) (h .«light_set_mask») (h .«light_enabled») (h .«overflow_lights») (h .«overflow_count»))) (λ e.
+      split ! $ move ! (1 ∷ []) $ use1 W (some (λ (ws : Unit {0} × (Unit {0} × (Unit {0} × (Unit {0} × (Unit {0} × (Unit {0} × (Unit {0}))))))). ‵ (lasts mask.ended tt (k, (h .lights, (h .«light_set_mask», (h .«light_enabled», (h .«overflow_lights», (h .«overflow_count», tt)))))) ws) ⊛ raw (fact 𝓤 (r ≡ maskNumber k (partLights k (h .lights) (h .«light_set_mask») (h .«light_enabled») (h .«overflow_lights») (h .«overflow_count»)))))) (id⊢ 𝓤 _) $ pick ! (λ ws.
+      split ! $ move ! (1 ∷ []) $ heard ! (r ≡ maskNumber k (partLights k (h .lights) (h .«light_set_mask») (h .«light_enabled») (h .«overflow_lights») (h .«overflow_count»))) (λ e.
       drop ! $
       split ! $
       move ! (1 ∷ []) $
       peeks ! u32 (Is u32) (shows 𝓤 H A u32) r (v ∷ []) (λ is. drop ! $
       drop ! $
-      kit.now ! $ show ! (λ (p : ℕ). sep 𝓤 (emp 𝓤) (fact 𝓤 (((v ≡ vint w32 (p)) × ((p) < 2 ^ 32)) × (p ≡ maskNumber k (partLights (h .lights) (h .«light_set_mask») (h .«light_enabled») (h .«overflow_lights») (h .«overflow_count»)))))) (r) $ says ! (((ap only (uint-tells w32 r _ is), is .1), e)) $
+      kit.now ! $ show ! (λ (p : ℕ). sep 𝓤 (emp 𝓤) (fact 𝓤 (((v ≡ vint w32 (p)) × ((p) < 2 ^ 32)) × (p ≡ maskNumber k (partLights k (h .lights) (h .«light_set_mask») (h .«light_enabled») (h .«overflow_lights») (h .«overflow_count»)))))) (r) $ says ! (((ap only (uint-tells w32 r _ is), is .1), e)) $
       keep ! [] $
       done !))))
 
@@ -275,8 +275,8 @@ module _ {M : Type 1} (𝓤 : URA M) (H : Heap 𝓤) (A : Atoms 𝓤) (W : Given
         use2 W (later (raw (Shut 𝓤 H A κ q b o γ (h)))) (shut-it was) $ await ! tt $
         use0 W (later (raw (C mask-def.name (keyVal k ∷ part 6 h ∷ part 8 h ∷ part 7 h ∷ part 12 h ∷ part 13 h ∷ []) (After-mask)))) (calls-mask was) $ await ! tt $
         calls-from ! fm (raw (C mask-def.name (keyVal k ∷ part 6 h ∷ part 8 h ∷ part 7 h ∷ part 12 h ∷ part 13 h ∷ []) (After-mask))) (keyVal k ∷ part 6 h ∷ part 8 h ∷ part 7 h ∷ part 12 h ∷ part 13 h ∷ []) (After-mask) (id⊢ 𝓤 _) (and-then ! (load ! (from ! (stop !)) (look ! 18 refl)) (and-then ! (load ! (from ! (stop !)) (look ! 10 refl)) (and-then ! (load ! (from ! (stop !)) (look ! 8 refl)) (and-then ! (load ! (from ! (stop !)) (look ! 6 refl)) (and-then ! (load ! (from ! (stop !)) (look ! 4 refl)) (and-then ! (load ! (from ! (stop !)) (look ! 2 refl)) (no-more !))))))) (λ vm.
-        use1 W (later (some (λ (m : ℕ). (‵ ftrue) ⊛ raw (fact 𝓤 (((vm ≡ vint w32 (m)) × ((m) < 2 ^ 32)) × (m ≡ maskNumber k (partLights (h .lights) (h .«light_set_mask») (h .«light_enabled») (h .«overflow_lights») (h .«overflow_count»)))))))) (id⊢ 𝓤 _) $ await ! tt $ pick ! (λ m.
-        split ! $ move ! (1 ∷ []) $ heard ! (((vm ≡ vint w32 (m)) × ((m) < 2 ^ 32)) × (m ≡ maskNumber k (partLights (h .lights) (h .«light_set_mask») (h .«light_enabled») (h .«overflow_lights») (h .«overflow_count»)))) (λ em.
+        use1 W (later (some (λ (m : ℕ). (‵ ftrue) ⊛ raw (fact 𝓤 (((vm ≡ vint w32 (m)) × ((m) < 2 ^ 32)) × (m ≡ maskNumber k (partLights k (h .lights) (h .«light_set_mask») (h .«light_enabled») (h .«overflow_lights») (h .«overflow_count»)))))))) (id⊢ 𝓤 _) $ await ! tt $ pick ! (λ m.
+        split ! $ move ! (1 ∷ []) $ heard ! (((vm ≡ vint w32 (m)) × ((m) < 2 ^ 32)) × (m ≡ maskNumber k (partLights k (h .lights) (h .«light_set_mask») (h .«light_enabled») (h .«overflow_lights») (h .«overflow_count»)))) (λ em.
         drop ! $
         land ! (from ! (stop !)) (init ! 21 refl (subst (λ (w : Val). T (hasTy (tyInt w32) w) × WT w) (sym (em .0 .0)) (tt, record { fits = em .0 .1 }))) $
         rewrite ! 21 (λ (w : Val). ‵ (fat fullShare (tyInt w32) l₀ 0 w)) (em .0 .0) refl $

@@ -22,7 +22,7 @@ rows-is : (c : tie.After-section-rows) → c .section-rows .result ≡ sectionRo
 rows-is c = c .section-rows .ensures
 
 byte : (c : tie.After-section-rows) → begin c .args .key .«vertex_blend_count» < 256
-byte c = begin c .good .1 .1 .0 .1 .1 .1 .1 .1 .1 .1 .1 .0 .1
+byte c = begin c .good .1 .1 .0 .1 .1 .1 .1 .1 .1 .1 .1 .1 .0 .1
 
 read : (c : tie.After-section-rows) → refused (begin c .args .image .now) ≡ false
 read c = sym (c .before .before .image-refused .ensures) ∙ c .before .if1 .left

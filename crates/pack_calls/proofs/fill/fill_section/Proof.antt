@@ -1,4 +1,4 @@
--- `pack_calls::fill::fill_section` meets its contract: the key is what the seven numbers say.
+-- `pack_calls::fill::fill_section` meets its contract: the key is what the eight numbers say.
 -- Assumes nothing.
 use mathlib.Core.Path.{ap, _∙_}
 use denote.Ref.{now}

@@ -35,7 +35,7 @@ write-palette-requires c κs =
     let counted = c .before in
     let test = counted .before .before in
     let e = counted .palette-matrices .ensures in
-    let most = matrices-most (test .before .before .before .args .key) (test .before .before .before .good .1 .0 .1 .1 .1 .1 .1 .1 .1 .1 .0 .1) in
+    let most = matrices-most (test .before .before .before .args .key) (test .before .before .before .good .1 .0 .1 .1 .1 .1 .1 .1 .1 .1 .1 .0 .1) in
     (omega (arith, e, most), omega (arith, e, ok test .long))
 
 same-length : tie.Need-same-length

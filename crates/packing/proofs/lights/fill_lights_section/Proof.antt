@@ -14,9 +14,11 @@ use Rattle.sections.specs.declared.sections.Section.the-variants.{Lights}
 use Rattle.rows.specs.Rows.{floats}
 use Rattle.light_rows.specs.Light.{lightsRows}
 use Rattle.sections.specs.Counts.{places, lightCount}
+use Rattle.sections.specs.Key.{lightLimit}
+use Rattle.sections.proofs.Shape.{limit-small}
 use Rattle.packing.proofs.Lengths.{places-low}
 use Rattle.packing.proofs.Outcomes.{Passed, failed, passed}
-use Rattle.packing.proofs.LightMask.{none-accepted, none-packed, its-accepted, another-refused, some-packed}
+use Rattle.packing.proofs.LightMask.{packed, none-accepted, none-packed, its-accepted, another-refused, some-packed}
 use borrow.Author.Needs.{needs}
 use Rattle.packing.proofs.lights.fill_lights_section.Statement.{statement}
 use Rattle.packing.proofs.lights.fill_lights_section.Tie as tie
@@ -29,15 +31,15 @@ few : (c : tie.After-resolve-active-lights) → c .resolve-active-lights .result
 unfolding resolveActiveLights
 few c =
     let entry = c .before .before .before .before .before in
-    subst (λ (l : ActiveLights). l .len ≤ 8) (sym (c .resolve-active-lights .ensures)) (listed-len (activeLights (entry .args .s)))
+    subst (λ (l : ActiveLights). l .len ≤ 8) (sym (c .resolve-active-lights .ensures)) (listed-len (lightLimit (entry .args .key)) (limit-small (entry .args .key)) (activeLights (entry .args .s)))
 
-front : (c : tie.After-resolve-active-lights) → take (c .resolve-active-lights .result .len) (c .resolve-active-lights .result .lights) ≡ take 8 (activeLights (c .before .before .before .before .before .args .s))
+front : (c : tie.After-resolve-active-lights) → take (c .resolve-active-lights .result .len) (c .resolve-active-lights .result .lights) ≡ packed (c .before .before .before .before .before .args .s) (c .before .before .before .before .before .args .key)
 unfolding resolveActiveLights
 front c =
     let entry = c .before .before .before .before .before in
-    ap (λ (l : ActiveLights). take (l .len) (l .lights)) (c .resolve-active-lights .ensures) ∙ listed-front (activeLights (entry .args .s))
+    ap (λ (l : ActiveLights). take (l .len) (l .lights)) (c .resolve-active-lights .ensures) ∙ listed-front (lightLimit (entry .args .key)) (activeLights (entry .args .s))
 
-counted : (c : tie.After-resolve-active-lights) → c .resolve-active-lights .result .len ≡ length (take 8 (activeLights (c .before .before .before .before .before .args .s)))
+counted : (c : tie.After-resolve-active-lights) → c .resolve-active-lights .result .len ≡ length (packed (c .before .before .before .before .before .args .s) (c .before .before .before .before .before .args .key))
 unfolding resolveActiveLights listed
 counted c = ap (λ (l : ActiveLights). l .len) (c .resolve-active-lights .ensures)
 

@@ -8,6 +8,8 @@ use Rattle.light_table.specs.Active.{listed, lowBits, masksOf}
 use Rattle.light_table.specs.declared.active.ActiveLights.{ActiveLights}
 use Rattle.light_table.proofs.Compaction.{listed-len}
 use Rattle.ff_state.specs.Active.{activeLights, resolveActiveLights}
+use Rattle.sections.specs.Key.{lightLimit}
+use Rattle.sections.proofs.Shape.{limit-small}
 use Rattle.packing.specs.Inputs.{maskAccepted}
 use borrow.Author.Needs.{needs}
 use Rattle.refresh.proofs.answer.mask_accepted.Statement.{statement}
@@ -22,7 +24,9 @@ resolve-active-lights-requires c κs = search needs
 
 low-bits-requires : tie.Need-low-bits-requires
 unfolding resolveActiveLights
-low-bits-requires c κs = subst (λ (l : ActiveLights). l .len ≤ 8) (sym (c .resolve-active-lights .ensures)) (listed-len (activeLights (c .before .before .args .s)))
+low-bits-requires c κs =
+    let a = c .before .before .args in
+    subst (λ (l : ActiveLights). l .len ≤ 8) (sym (c .resolve-active-lights .ensures)) (listed-len (lightLimit (a .key)) (limit-small (a .key)) (activeLights (a .s)))
 
 returns-2 : tie.Need-returns-2
 unfolding maskAccepted masksOf resolveActiveLights listed

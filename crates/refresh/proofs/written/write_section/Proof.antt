@@ -18,7 +18,7 @@ use Rattle.packing.specs.Pack.{stateCount}
 ready : (c : tie.Start) → Ready (c .args .s) (c .args .key)
 ready c =
     record {
-      count = c .good .1 .1 .1 .0 .1 .1 .1 .1 .1 .1 .1 .1 .0 .1;
+      count = c .good .1 .1 .1 .0 .1 .1 .1 .1 .1 .1 .1 .1 .1 .0 .1;
       palette = sym (length-map (c .args .s .«world_palette») _) ∙ c .good .1 .1 .0 .1 .1 .1 .1 .0 .1 .0 .1;
       mask = c .pre .1;
     }

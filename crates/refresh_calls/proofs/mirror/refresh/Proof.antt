@@ -1,4 +1,4 @@
--- `refresh_calls::mirror::refresh` meets its contract: the key is what the seven numbers say.
+-- `refresh_calls::mirror::refresh` meets its contract: the key is what the eight numbers say.
 -- Assumes nothing.
 use mathlib.Core.Path.{ap, _∙_}
 use denote.Ref.{now}

@@ -24,7 +24,7 @@ use Rattle.refresh_calls.proofs.written.write_section_bytes.Tie as tie
 ready : (c : tie.Start) → Ready (c .args .s) (c .args .key)
 ready c =
     record {
-      count = c .good .1 .1 .1 .0 .1 .1 .1 .1 .1 .1 .1 .1 .0 .1;
+      count = c .good .1 .1 .1 .0 .1 .1 .1 .1 .1 .1 .1 .1 .1 .0 .1;
       palette = sym (length-map (c .args .s .«world_palette») _) ∙ c .good .1 .1 .0 .1 .1 .1 .1 .0 .1 .0 .1;
       mask = c .pre .1;
     }

@@ -10,6 +10,8 @@ use Rattle.d3d9_types.specs.declared.light.D3DLIGHT9.{D3DLIGHT9}
 use Rattle.light_table.specs.Active.{listed}
 use Rattle.light_table.specs.declared.active.ActiveLights.{ActiveLights}
 use Rattle.light_table.proofs.Compaction.{listed-len, listed-front}
+use Rattle.sections.specs.Key.{lightLimit}
+use Rattle.sections.proofs.Shape.{limit-small}
 use Rattle.rows.specs.Rows.{floats}
 use Rattle.light_rows.specs.Light.{lightsRows}
 use Rattle.refresh_parts.specs.Parts.{activeParts}
@@ -20,7 +22,7 @@ use Rattle.refresh_parts.proofs.lights.put_lights.Tie as tie
 
 -- the resolved list: at most eight lights, which stand in front
 few : (c : tie.After-active-of) → c .active-of .result .len ≤ 8
-few c = subst (λ (l : ActiveLights). l .len ≤ 8) (sym (c .active-of .ensures)) (listed-len _)
+few c = subst (λ (l : ActiveLights). l .len ≤ 8) (sym (c .active-of .ensures)) (listed-len _ (limit-small (c .before .before .args .key)) _)
 
 module _ (c : tie.After-active-of) where
   abbrev all : List D3DLIGHT9
@@ -28,10 +30,16 @@ module _ (c : tie.After-active-of) where
       let a = c .before .before .args in
       activeParts (a .lights) (a .set) (a .enabled) (a .entries) (a .count)
 
-  front : take (c .active-of .result .len) (c .active-of .result .lights) ≡ take 8 all
-  front = ap (λ (l : ActiveLights). take (l .len) (l .lights)) (c .active-of .ensures) ∙ listed-front all
+  abbrev limit : ℕ
+  limit = lightLimit (c .before .before .args .key)
 
-  counted : length (take 8 all) ≡ c .active-of .result .len
+  abbrev packed : List D3DLIGHT9
+  packed = take limit all
+
+  front : take (c .active-of .result .len) (c .active-of .result .lights) ≡ packed
+  front = ap (λ (l : ActiveLights). take (l .len) (l .lights)) (c .active-of .ensures) ∙ listed-front limit all
+
+  counted : length packed ≡ c .active-of .result .len
   unfolding listed
   counted = sym (ap (λ (l : ActiveLights). l .len) (c .active-of .ensures))
 
@@ -71,7 +79,7 @@ returns c =
     let long : 24 * n ≡ 60 + 24 * n - 60 = omega arith in
     put-back (a .mirror .now) refl
     (wrote .write-lights .ensures ∙ ap (λ (ls : List D3DLIGHT9). floats (lightsRows (a .view) ls)) (front list))
-    (lights-floats (a .view) (take 8 (all list)) ∙ ap (λ (m : ℕ). 24 * m) (counted list) ∙ long)
+    (lights-floats (a .view) (packed list) ∙ ap (λ (m : ℕ). 24 * m) (counted list) ∙ long)
 
 pub put-lights-spec : {M : Type 1} → statement M
 put-lights-spec =

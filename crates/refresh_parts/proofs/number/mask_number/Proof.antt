@@ -10,6 +10,8 @@ use borrow.Author.Needs.{needs}
 use Rattle.light_table.specs.Active.{listed, lowBits, masksOf}
 use Rattle.light_table.specs.declared.active.ActiveLights.{ActiveLights}
 use Rattle.light_table.proofs.Compaction.{listed-len}
+use Rattle.sections.specs.Key.{lightLimit}
+use Rattle.sections.proofs.Shape.{limit-small}
 use Rattle.refresh_parts.proofs.number.mask_number.Statement.{statement}
 use Rattle.refresh_parts.proofs.number.mask_number.Tie as tie
 
@@ -17,7 +19,7 @@ active-of-requires : tie.Need-active-of-requires
 active-of-requires c κs = search needs
 
 low-bits-requires : tie.Need-low-bits-requires
-low-bits-requires c κs = subst (λ (l : ActiveLights). l .len ≤ 8) (sym (c .active-of .ensures)) (listed-len _)
+low-bits-requires c κs = subst (λ (l : ActiveLights). l .len ≤ 8) (sym (c .active-of .ensures)) (listed-len _ (limit-small (c .before .args .key)) _)
 
 -- the mask of the list that was resolved
 abbrev lights : tie.After-low-bits → List D3DLIGHT9
@@ -25,7 +27,7 @@ lights c =
     let a = c .before .before .args in
     activeParts (a .lights) (a .set) (a .enabled) (a .entries) (a .count)
 
-counted : (c : tie.After-low-bits) → c .low-bits .result ≡ lowBits (listed 8 (lights c) .len)
+counted : (c : tie.After-low-bits) → c .low-bits .result ≡ lowBits (listed (lightLimit (c .before .before .args .key)) (lights c) .len)
 counted c = c .low-bits .ensures ∙ ap (λ (l : ActiveLights). lowBits (l .len)) (c .before .active-of .ensures)
 
 returns : tie.Need-returns

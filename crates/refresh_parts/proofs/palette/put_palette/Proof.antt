@@ -16,7 +16,7 @@ use Rattle.refresh_parts.proofs.palette.put_palette.Tie as tie
 
 -- at most 255 matrices
 most : (c : tie.After-palette-matrices) → c .palette-matrices .result ≤ 255
-most c = omega (arith, c .palette-matrices .ensures, matrices-most (c .before .before .args .key) (c .before .before .good .1 .1 .0 .1 .1 .1 .1 .1 .1 .1 .1 .0 .1))
+most c = omega (arith, c .palette-matrices .ensures, matrices-most (c .before .before .args .key) (c .before .before .good .1 .1 .0 .1 .1 .1 .1 .1 .1 .1 .1 .1 .0 .1))
 
 palette-matrices-requires : tie.Need-palette-matrices-requires
 palette-matrices-requires c κs = search needs
