@@ -1,4 +1,4 @@
--- Document 02, T-01, computed on states of three, four and nine active lights: which masks are packed under the flag and without it, and that the preview's lights are the first four.
+-- Document 02, T-01, computed on states of three to nine active lights: which masks are packed under the flag and without it, and that the preview's lights are the first four.
 -- Assumes nothing.
 use Prim.Native.Nat.{ℕ, zero, suc, _+_, _*_}
 use mathlib.Core.Path.{_≡_, refl}
@@ -72,15 +72,12 @@ keyOf preview mask =
 abbrev answers : ℕ → ℕ → ℕ → List ℕ
 answers n mask rows = map (λ (preview : Bool). packNumber (packSection Lights (burning n) (keyOf preview mask) (replicate (4 * rows) Numbers.zero) .answer)) (true ∷ false ∷ [])
 
--- "its mask has at most four bits, and refusal 5 compares with the mask under the caller's limit"
-nine-lights : (answers 9 0x0F 24 ≡ 0 ∷ 5 ∷ []) × (answers 9 0xFF 48 ≡ 5 ∷ 0 ∷ []) × (answers 9 0xFF 24 ≡ 4 ∷ 4 ∷ []) × (answers 9 0 0 ≡ 0 ∷ 0 ∷ [])
+-- "its mask has at most four bits, and refusal 5 compares with the mask under the caller's limit": of nine lights, and of five; of four or fewer the mask is the same either way
+answers-right :
+    answers 9 0x0F 24 ∷ answers 9 0xFF 48 ∷ answers 9 0xFF 24 ∷ answers 9 0 0 ∷ answers 5 0x1F 30 ∷ answers 5 0x0F 24 ∷ answers 4 0x0F 24 ∷ answers 3 0x07 18 ∷ []
+    ≡ (0 ∷ 5 ∷ []) ∷ (5 ∷ 0 ∷ []) ∷ (4 ∷ 4 ∷ []) ∷ (0 ∷ 0 ∷ []) ∷ (5 ∷ 0 ∷ []) ∷ (0 ∷ 5 ∷ []) ∷ (0 ∷ 0 ∷ []) ∷ (0 ∷ 0 ∷ []) ∷ []
 unfolding limitOf burning packSection packInputs packNumber packedRows maskAccepted lightCount places leadingZeros setLightAt setLightEnabledAt flag changeEntry insertEntry replaceEntry found setSlot enableSlot defineSlot dirtied activeLights lightActiveMask slotsFrom activeOverflow masksOf lowBits kindMask insertedAt findEntry lowerBound usedCount withBit hasBit contributes zeroEntry zeroLight freshState defaultLight
-nine-lights = (refl, refl, refl, refl)
-
--- of four lights or fewer the mask is the same either way
-few-lights : (answers 3 0x07 18 ≡ 0 ∷ 0 ∷ []) × (answers 4 0x0F 24 ≡ 0 ∷ 0 ∷ []) × (answers 5 0x1F 30 ≡ 5 ∷ 0 ∷ []) × (answers 5 0x0F 24 ≡ 0 ∷ 5 ∷ [])
-unfolding limitOf burning packSection packInputs packNumber packedRows maskAccepted lightCount places leadingZeros setLightAt setLightEnabledAt flag changeEntry insertEntry replaceEntry found setSlot enableSlot defineSlot dirtied activeLights lightActiveMask slotsFrom activeOverflow masksOf lowBits kindMask insertedAt findEntry lowerBound usedCount withBit hasBit contributes zeroEntry zeroLight freshState defaultLight
-few-lights = (refl, refl, refl, refl)
+answers-right = refl
 
 -- the range of packed light i: the last float of its fifth row
 abbrev previewRange : ℕ → ℕ
