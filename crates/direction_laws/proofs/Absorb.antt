@@ -11,14 +11,7 @@ use lib.Ieee.{binary32, size}
 use lib.Ieee.Digits.{size-lt, size-le}
 use lib.Ieee.Scale.{grid}
 use borrow.Author.Tests.{leb-true, leb-false}
-use Rattle.direction_laws.proofs.Grid.{unit, long, power-below, power-above, absorb, split-off, whole-scale}
-
--- a number of at most 24 digits, moved up
-pub record Short (p : ℕ) : Type 0 where
-  pub m : ℕ
-  pub j : ℕ
-  pub few : m < 2 ^ 24
-  pub is : p ≡ m * 2 ^ j
+use Rattle.float32.proofs.Grid.{unit, Short, long, power-below, power-above, absorb, split-off, whole-scale}
 
 -- ---- a sum rounded, in units, and powers of two
 

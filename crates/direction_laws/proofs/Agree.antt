@@ -21,14 +21,15 @@ use Rattle.float32.specs.Root.{inUnits}
 use Rattle.lemmas.proofs.Tests.{test}
 use Rattle.directions.specs.Scale.{largest, scalable, scaling, scaledBy, scaled}
 use Rattle.directions.specs.Direction.{lengthOf, overLength, unitDirection}
-use Rattle.directions.proofs.Range.{units-of, largest-in-range}
+use Rattle.directions.proofs.Range.{largest-in-range}
 use Rattle.directions.proofs.Scaling.{scaled-if, scaled-not, scalable-says}
 use Rattle.direction_laws.specs.Domain.{inRange, sumOfSquares, rustRules}
-use Rattle.direction_laws.proofs.Grid.{unit}
+use Rattle.float32.proofs.Grid.{unit}
+use Rattle.float32.proofs.Units.{Counted, counted, units-of}
 use Rattle.direction_laws.proofs.Sum.{square, Large, two, total, total-exact, total-moved, reaching, total-small, total-bounds}
 use Rattle.direction_laws.proofs.Steps.{limit, sum-finite}
 use Rattle.direction_laws.proofs.Pair.{same}
-use Rattle.direction_laws.proofs.Exact.{Component, component, is-finite, is-large, power, scaled-up, scaled-down}
+use Rattle.direction_laws.proofs.Exact.{is-finite, is-large, power, scaled-up, scaled-down}
 
 module _ (d : D3DVECTOR) (h : vectorFits d) (R : T (rustRules d)) where
   abbrev l : Float
@@ -52,14 +53,14 @@ module _ (d : D3DVECTOR) (h : vectorFits d) (R : T (rustRules d)) where
       let all = and-l (p && (q && r)) (finite (sumOfSquares d)) R in
       (and-l p (q && r) all, and-l q r (and-r p (q && r) all), and-r q r (and-r p (q && r) all), and-r (p && (q && r)) (finite (sumOfSquares d)) R)
 
-  cx : Component (d .x)
-  cx = component (d .x) (h .x) (is-finite (d .x) l (h .x) (says .0))
+  cx : Counted (d .x)
+  cx = counted (d .x) (h .x) (is-finite (d .x) l (h .x) (says .0))
 
-  cy : Component (d .y)
-  cy = component (d .y) (h .y) (is-finite (d .y) l (h .y) (says .1))
+  cy : Counted (d .y)
+  cy = counted (d .y) (h .y) (is-finite (d .y) l (h .y) (says .1))
 
-  cz : Component (d .z)
-  cz = component (d .z) (h .z) (is-finite (d .z) l (h .z) (says .2))
+  cz : Counted (d .z)
+  cz = counted (d .z) (h .z) (is-finite (d .z) l (h .z) (says .2))
 
   lx : Large a
   lx = is-large (d .x) l (h .x) (says .0)
@@ -72,7 +73,7 @@ module _ (d : D3DVECTOR) (h : vectorFits d) (R : T (rustRules d)) where
 
   -- the sum is finite, so that no component reaches 2 ^ 64
   below : total a b c < limit
-  below = sum-finite (d .x) (d .y) (d .z) (cx .s) (cy .s) (cz .s) a b c (cx .value) (cy .value) (cz .value) (says .3)
+  below = sum-finite (d .x) (d .y) (d .z) (cx .sign) (cy .sign) (cz .sign) a b c (cx .value) (cy .value) (cz .value) (says .3)
 
   -- the digits of the largest component
   z : ℕ
@@ -93,9 +94,9 @@ module _ (d : D3DVECTOR) (h : vectorFits d) (R : T (rustRules d)) where
     range : (2 ^ 149 ≤ largest e) × (largest e < 2 ^ 150)
     range = subst (λ (v : D3DVECTOR). (2 ^ 149 ≤ largest v) × (largest v < 2 ^ 150)) scaled-is (let s = scalable-says d yes in largest-in-range d h (s .0) (s .1) (s .2) (s .3))
 
-    counted : (r s u : Bool) (i j k : ℕ) → HasValue (e .x) r i unit → HasValue (e .y) s j unit → HasValue (e .z) u k unit → largest e ≡ max i (max j k)
+    by-counts : (r s u : Bool) (i j k : ℕ) → HasValue (e .x) r i unit → HasValue (e .y) s j unit → HasValue (e .z) u k unit → largest e ≡ max i (max j k)
     unfolding largest
-    counted r s u i j k x y w =
+    by-counts r s u i j k x y w =
         ap₂ max (units-of (e .x) r i unit i (pow-pos 149) x refl) (ap₂ max (units-of (e .y) s j unit j (pow-pos 149) y refl) (units-of (e .z) u k unit k (pow-pos 149) w refl))
 
     size-max : max a (max b c) < 2 ^ z
@@ -110,23 +111,23 @@ module _ (d : D3DVECTOR) (h : vectorFits d) (R : T (rustRules d)) where
         let X = scaled-up (d .x) cx z t sum (lt-of-le-of-lt (le-max-left a (max b c)) size-max) in
         let Y = scaled-up (d .y) cy z t sum (lt-of-le-of-lt (le-trans (le-max-left b c) (le-max-right a (max b c))) size-max) in
         let Z = scaled-up (d .z) cz z t sum (lt-of-le-of-lt (le-trans (le-max-right b c) (le-max-right a (max b c))) size-max) in
-        let most : largest e ≡ max (a * 2 ^ t) (max (b * 2 ^ t) (c * 2 ^ t)) = counted (cx .s) (cy .s) (cz .s) (a * 2 ^ t) (b * 2 ^ t) (c * 2 ^ t) X Y Z in
+        let most : largest e ≡ max (a * 2 ^ t) (max (b * 2 ^ t) (c * 2 ^ t)) = by-counts (cx .sign) (cy .sign) (cz .sign) (a * 2 ^ t) (b * 2 ^ t) (c * 2 ^ t) X Y Z in
         let is : total (a * 2 ^ t) (b * 2 ^ t) (c * 2 ^ t) ≡ total a b c * 2 ^ (t + t) = total-exact a b c t lx ly lz in
         let reach = reaching (a * 2 ^ t) (b * 2 ^ t) (c * 2 ^ t) (le-trans (range .0) (le-of-eq most)) in
         let some : 0 < total a b c = first-pos (total a b c) (2 ^ (t + t)) (lt-of-lt-of-le (pow-pos 149) (le-trans reach (le-of-eq is))) in
         sym
-        (same d e (cx .s) (cy .s) (cz .s) a b c t (cx .value) (cy .value) (cz .value) X Y Z some
+        (same d e (cx .sign) (cy .sign) (cz .sign) a b c t (cx .value) (cy .value) (cz .value) X Y Z some
         (total-small (a * 2 ^ t) (b * 2 ^ t) (c * 2 ^ t) (lt-of-le-of-lt (le-of-eq (sym most)) (range .1))) is)
 
     -- it is 2 or more: each goes down by 2 ^ t, to i, j, k units
-    down-at : (t i j k : ℕ) → i * 2 ^ t ≡ a → j * 2 ^ t ≡ b → k * 2 ^ t ≡ c → HasValue (e .x) (cx .s) i unit → HasValue (e .y) (cy .s) j unit → HasValue (e .z) (cz .s) k unit → overLength e ≡ overLength d
+    down-at : (t i j k : ℕ) → i * 2 ^ t ≡ a → j * 2 ^ t ≡ b → k * 2 ^ t ≡ c → HasValue (e .x) (cx .sign) i unit → HasValue (e .y) (cy .sign) j unit → HasValue (e .z) (cz .sign) k unit → overLength e ≡ overLength d
     down-at t i j k p q r X Y Z =
-        let reach : 2 ^ 149 ≤ total i j k = reaching i j k (le-trans (range .0) (le-of-eq (counted (cx .s) (cy .s) (cz .s) i j k X Y Z))) in
+        let reach : 2 ^ 149 ≤ total i j k = reaching i j k (le-trans (range .0) (le-of-eq (by-counts (cx .sign) (cy .sign) (cz .sign) i j k X Y Z))) in
         let whole : total (i * 2 ^ t) (j * 2 ^ t) (k * 2 ^ t) ≡ total a b c = ap₂ two (ap₂ two (ap square p) (ap square q)) (ap square r) in
-        same e d (cx .s) (cy .s) (cz .s) i j k t X Y Z
-        (subst (λ (n : ℕ). HasValue (d .x) (cx .s) n unit) (sym p) (cx .value))
-        (subst (λ (n : ℕ). HasValue (d .y) (cy .s) n unit) (sym q) (cy .value))
-        (subst (λ (n : ℕ). HasValue (d .z) (cz .s) n unit) (sym r) (cz .value))
+        same e d (cx .sign) (cy .sign) (cz .sign) i j k t X Y Z
+        (subst (λ (n : ℕ). HasValue (d .x) (cx .sign) n unit) (sym p) (cx .value))
+        (subst (λ (n : ℕ). HasValue (d .y) (cy .sign) n unit) (sym q) (cy .value))
+        (subst (λ (n : ℕ). HasValue (d .z) (cz .sign) n unit) (sym r) (cz .value))
         (lt-of-lt-of-le (pow-pos 149) reach) (lt-of-le-of-lt (le-of-eq whole) below) (total-moved i j k t reach)
 
     down-case : 150 < z → overLength e ≡ overLength d

@@ -21,27 +21,12 @@ use Rattle.float32.specs.Root.{inUnits}
 use Rattle.float32.proofs.Laws.{units-of-value}
 use Rattle.matrix.specs.Sum.{times}
 use Rattle.directions.specs.Scale.{digitsOfOne}
-use Rattle.directions.proofs.Magnitude.{count, count-shape, shaped}
 use Rattle.directions.proofs.Power.{times-value}
 use Rattle.direction_laws.specs.Domain.{isZero, isNormal, inRange}
-use Rattle.direction_laws.proofs.Grid.{unit, long}
-use Rattle.direction_laws.proofs.Absorb.{Short}
+use Rattle.float32.proofs.Grid.{unit, Short, long}
+use Rattle.float32.proofs.Units.{Counted, counted}
 use Rattle.direction_laws.proofs.Sum.{square, Large}
 use Rattle.direction_laws.proofs.Steps.{limit, square-value}
-
--- ---- a finite float: its sign, its count of units, and that this has at most 24 digits
-
-pub record Component (x : Float) : Type 0 where
-  pub s : Bool
-  pub value : HasValue x s (inUnits x) unit
-  pub short : Short (inUnits x)
-
-pub component : (x : Float) → floatFits x → T (finite x) → Component x
-component nan h f = absurd f
-component (inf s) h f = absurd f
-component (fin s m e) h f =
-    let g = shaped s m e h in
-    record { s = s; value = (refl, count s m e h); short = record { m = g .m; j = g .j; few = g .few; is = count-shape s m e h } }
 
 -- ---- what the domain says of a component
 
@@ -96,12 +81,12 @@ module _ (x l : Float) (h : floatFits x) (r : T (inRange l x)) where
 
   pub is-large : Large (inUnits x)
   is-large =
-      let c = component x h is-finite in
+      let c = counted x h is-finite in
       elim kinds [
         | inl z ↦ inl (eqb→eq (inUnits x) 0 (and-r (finite x) (eqb (inUnits x) 0) z))
         | inr n ↦
             let q = normal-says (times x x) n in
-            let count : inUnits (times x x) ≡ square (inUnits x) = units-of-value (times x x) (square (inUnits x)) (square-value x (c .s) (inUnits x) (c .value) (q .0)) in
+            let count : inUnits (times x x) ≡ square (inUnits x) = units-of-value (times x x) (square (inUnits x)) (square-value x (c .sign) (inUnits x) (c .value) (q .0)) in
             inr (large (inUnits x) (c .short) (le-trans (q .1) (le-of-eq count)))
       ]
 
@@ -123,21 +108,21 @@ scaled-value x s n z y v S small e =
     (ap (λ (a : ℕ). a * unit) same ∙ mul-assoc y (down p) unit ∙ ap (λ (a : ℕ). y * a) (mul-comm (down p) unit))))
     (round-exact binary32 s y unit (S .m) (S .j) (pow-pos 149) (S .few) (lt-of-le-of-lt (le-of-eq (sym (S .is))) small) (ap (λ (a : ℕ). a * unit) (S .is)))
 
-module _ (x : Float) (c : Component x) (z : ℕ) where
+module _ (x : Float) (c : Counted x) (z : ℕ) where
   abbrev n : ℕ
   n = inUnits x
 
   -- up, by 2 ^ t
-  pub scaled-up : (t : ℕ) → z + t ≡ 150 → n < 2 ^ z → HasValue (times x (power z)) (c .s) (n * 2 ^ t) unit
+  pub scaled-up : (t : ℕ) → z + t ≡ 150 → n < 2 ^ z → HasValue (times x (power z)) (c .sign) (n * 2 ^ t) unit
   scaled-up t e h =
       let S = c .short in
-      scaled-value x (c .s) n z (n * 2 ^ t) (c .value)
+      scaled-value x (c .sign) n z (n * 2 ^ t) (c .value)
       (record { m = S .m; j = S .j + t; few = S .few; is = ap (λ (a : ℕ). a * 2 ^ t) (S .is) ∙ mul-assoc (S .m) (2 ^ S .j) (2 ^ t) ∙ ap (λ (a : ℕ). S .m * a) (sym (pow-add 2 (S .j) t)) })
       (lt-of-lt-of-le (mul-lt-mul-of-pos-right h (pow-pos t)) (le-trans (le-of-eq (sym (pow-add 2 z t) ∙ ap (λ (i : ℕ). 2 ^ i) e)) (lit≤ {m = 2 ^ 150} {n = limit} tt)))
       (mul-assoc n (2 ^ t) (2 ^ z) ∙ ap (λ (a : ℕ). n * a) (mul-comm (2 ^ t) (2 ^ z) ∙ sym (pow-add 2 z t) ∙ ap (λ (i : ℕ). 2 ^ i) e))
 
   -- down, by 2 ^ t
-  pub scaled-down : (t : ℕ) → z ≡ 150 + t → t ≤ 63 → Large n → n < limit → (y : ℕ) × (y * 2 ^ t ≡ n) × HasValue (times x (power z)) (c .s) y unit
+  pub scaled-down : (t : ℕ) → z ≡ 150 + t → t ≤ 63 → Large n → n < limit → (y : ℕ) × (y * 2 ^ t ≡ n) × HasValue (times x (power z)) (c .sign) y unit
   scaled-down t e near L small =
       ⊎-elim
       (λ (none : n ≡ 0). (0, zero-mul (2 ^ t) ∙ sym none, value 0 (record { m = 0; j = 0; few = lit< tt; is = refl }) (zero-mul (2 ^ t) ∙ sym none)))
@@ -150,7 +135,7 @@ module _ (x : Float) (c : Component x) (z : ℕ) where
       (y, is, value y (record { m = S .m; j = S .j - t; few = S .few; is = refl }) is))
       L
     where
-      value : (y : ℕ) → Short y → y * 2 ^ t ≡ n → HasValue (times x (power z)) (c .s) y unit
+      value : (y : ℕ) → Short y → y * 2 ^ t ≡ n → HasValue (times x (power z)) (c .sign) y unit
       value y S is =
-          scaled-value x (c .s) n z y (c .value) S (lt-of-le-of-lt (le-trans (le-mul-of-pos-right y (pow-pos t)) (le-of-eq is)) small)
+          scaled-value x (c .sign) n z y (c .value) S (lt-of-le-of-lt (le-trans (le-mul-of-pos-right y (pow-pos t)) (le-of-eq is)) small)
           (ap (λ (i : ℕ). y * 2 ^ i) e ∙ ap (λ (a : ℕ). y * a) (pow-add 2 150 t ∙ mul-comm (2 ^ 150) (2 ^ t)) ∙ sym (mul-assoc y (2 ^ t) (2 ^ 150)) ∙ ap (λ (a : ℕ). a * 2 ^ 150) is)

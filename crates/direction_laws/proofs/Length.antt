@@ -16,7 +16,8 @@ use borrow.Author.Tests.{lt-ltb, ne-eqb}
 use Rattle.d3d9_types.specs.Numbers.{zero, floatFits}
 use Rattle.float32.specs.Root.{nearestRoot, rootOf, sqrtOf, inUnits, unsigned}
 use Rattle.float32.proofs.Laws.{size-is, root-of-value, units-of-value, sqrt-normal}
-use Rattle.direction_laws.proofs.Grid.{unit, long}
+use Rattle.float32.proofs.Grid.{unit, long}
+use Rattle.float32.proofs.Arithmetic.{unlike-false}
 
 -- ---- the root
 
@@ -98,10 +99,6 @@ exceeds (fin false m e) n h p =
 
 -- ---- a quotient
 
-plain : (s : Bool) → unlike s false ≡ s
-plain true = refl
-plain false = refl
-
 quotient-is : (x l : Float) (s : Bool) (a n : ℕ) → HasValue x s a unit → HasValue l false n unit → 0 < n → div binary32 x l ≡ round binary32 s a n
 unfolding div
 quotient-is nan l s a n h k p = absurd h
@@ -113,7 +110,7 @@ quotient-is (fin t m e) (fin false i d) s a n h k p =
     let some : 0 < i = first-pos i (up d) (first-pos (i * up d) unit (subst (λ (b : ℕ). 0 < b) (sym (k .1)) (mul-pos p (down-pos d)))) in
     let test : eqb i 0 ≡ false = ne-eqb i 0 (λ (z : i ≡ 0). lt-irrefl 0 (subst (λ (b : ℕ). 0 < b) z some)) in
     ap (λ (b : Bool). cond b (cond (eqb m 0) nan (inf (unlike t false))) (round binary32 (unlike t false) (m * up e * down d) (i * up d * down e))) test
-    ∙ ap (λ (b : Bool). round binary32 b (m * up e * down d) (i * up d * down e)) (plain t ∙ h .0)
+    ∙ ap (λ (b : Bool). round binary32 b (m * up e * down d) (i * up d * down e)) (unlike-false t ∙ h .0)
     ∙ round-same binary32 s (m * up e * down d) (i * up d * down e) a n (mul-pos (mul-pos some (up-pos d)) (down-pos e)) p
     (eq-of-mul-eq-mul-right unit (pow-pos 149) (m * up e * down d * n) (a * (i * up d * down e))
     (let l : m * up e * down d * n * unit ≡ m * up e * unit * (n * down d) = simp (mul-assoc, mul-comm, mul-left-comm) in

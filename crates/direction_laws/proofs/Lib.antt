@@ -1,4 +1,3 @@
-mod Grid
 mod Absorb
 mod Sum
 mod Steps

@@ -12,7 +12,7 @@ use Rattle.matrix.specs.Sum.{times}
 use Rattle.matrix.proofs.Fits.{sum-fits}
 use Rattle.directions.specs.Direction.{lengthOf, over, noDirection, overLength}
 use Rattle.direction_laws.specs.Domain.{sumOfSquares}
-use Rattle.direction_laws.proofs.Grid.{unit}
+use Rattle.float32.proofs.Grid.{unit}
 use Rattle.direction_laws.proofs.Sum.{total}
 use Rattle.direction_laws.proofs.Steps.{limit, sum-value}
 use Rattle.direction_laws.proofs.Length.{root, root-value, root-moved, root-above, exceeds, quotient-same}

@@ -12,11 +12,8 @@ use lib.Ieee.{binary32, size}
 use lib.Ieee.Digits.{size-lt}
 use lib.Ieee.Scale.{grid, grid-scale, normal-of-fraction}
 use borrow.Author.Tests.{leb-true, leb-false}
-use Rattle.direction_laws.proofs.Grid.{unit, power-below, power-above, grid-shape, whole-scale}
-use Rattle.direction_laws.proofs.Absorb.{Short, Alike, exactly, small, weaker, joined, sum-above, sum-below}
-
-pub short : (a c : ℕ) → 0 < c → Short (grid binary32 a c)
-short a c C = let g = grid-shape a c C in record { m = g .0; j = g .1; few = g .2; is = g .3 }
+use Rattle.float32.proofs.Grid.{unit, Short, power-below, power-above, short, whole-scale}
+use Rattle.direction_laws.proofs.Absorb.{Alike, exactly, small, weaker, joined, sum-above, sum-below}
 
 -- ---- squares
 

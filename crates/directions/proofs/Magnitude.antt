@@ -7,7 +7,7 @@ use mathlib.Core.Bool.{Bool, true, false, _&&_, cond}
 use lib.Dec.{T, ltb}
 use lib.IntN.{ℤ}
 use lib.Pow.{pow-add, pow-mono, pow-pos}
-use lib.Ieee.{Float, nan, inf, fin, up, down, size, toBits}
+use lib.Ieee.{Float, nan, inf, fin, size, toBits}
 use lib.Ieee.Digits.{size-lt, size-le, size-reaches}
 use lib.Ieee.Fits.{kept-lt}
 use lib.Ieee.Scale.{finite}
@@ -17,27 +17,10 @@ use Rattle.d3d9_types.specs.Vector.{vectorFits}
 use Rattle.d3d9_types.specs.declared.vector.D3DVECTOR.{D3DVECTOR}
 use Rattle.float32.specs.Root.{inUnits}
 use Rattle.float32.specs.Cosine.{magnitude}
-use Rattle.float32.proofs.Laws.{Shape, shape, magnitude-fits, magnitude-bits}
+use Rattle.float32.proofs.Laws.{magnitude-bits}
+use Rattle.float32.proofs.Units.{counted}
 use Rattle.directions.specs.Magnitude.{magnitudeBits, largestBits}
 use Rattle.directions.specs.Scale.{largest, scalable}
-
--- a finite float without its sign: a number of at most 24 digits, moved up
-pub shaped : (s : Bool) (m : ℕ) (e : ℤ) → floatFits (fin s m e) → Shape (fin false m e)
-unfolding magnitude
-shaped s m e h = shape (fin false m e) (magnitude-fits (fin s m e) h) tt
-
--- its count of units
-pub count : (s : Bool) (m : ℕ) (e : ℤ) → floatFits (fin s m e) → m * up e * 2 ^ 149 ≡ inUnits (fin s m e) * down e
-unfolding inUnits
-count s m e h = shaped s m e h .value .1
-
-pub count-shape : (s : Bool) (m : ℕ) (e : ℤ) (h : floatFits (fin s m e)) → inUnits (fin s m e) ≡ shaped s m e h .m * 2 ^ shaped s m e h .j
-unfolding inUnits
-count-shape s m e h = shaped s m e h .is
-
-count-small : (s : Bool) (m : ℕ) (e : ℤ) → floatFits (fin s m e) → inUnits (fin s m e) < 2 ^ 277
-unfolding inUnits
-count-small s m e h = shaped s m e h .small
 
 -- ---- a growing function of the larger is the larger of its values
 
@@ -120,7 +103,7 @@ finite-below nan h f = absurd f
 finite-below (inf s) h f = absurd f
 finite-below (fin s m e) h f =
     let n : ℕ = inUnits (fin s m e) in
-    let few : size n ≤ 277 = size-le n 277 (count-small s m e h) in
+    let few : size n ≤ 277 = size-le n 277 (counted (fin s m e) h f .small) in
     let q : n / 2 ^ (size n - 24) < 2 ^ 24 = kept-lt 24 n in
     rw (bits-coded s m e h) (omega arith)
 

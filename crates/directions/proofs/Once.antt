@@ -15,9 +15,10 @@ use Rattle.d3d9_types.specs.Numbers.{floatFits}
 use Rattle.d3d9_types.specs.Vector.{vectorFits}
 use Rattle.d3d9_types.specs.declared.vector.D3DVECTOR.{D3DVECTOR}
 use Rattle.float32.specs.Root.{inUnits}
+use Rattle.float32.proofs.Units.{counted}
 use Rattle.matrix.specs.Sum.{times}
 use Rattle.directions.specs.Scale.{largest, scalable, digitsOfOne, scaling, scaled}
-use Rattle.directions.proofs.Magnitude.{count, all-hold}
+use Rattle.directions.proofs.Magnitude.{all-hold}
 use Rattle.directions.proofs.Power.{times-value}
 use Rattle.directions.proofs.Scaling.{scaled-if}
 
@@ -38,7 +39,7 @@ product z (fin s m e) h f =
     let k = minus digitsOfOne z in
     let cross : n * up k * (2 ^ 149 * 2 ^ z) ≡ n * 2 ^ 150 * (2 ^ 149 * down k) =
     mul-left-comm (n * up k) (2 ^ 149) (2 ^ z) ∙ ap (λ (a : ℕ). 2 ^ 149 * a) (minus-val n digitsOfOne z) ∙ mul-left-comm (2 ^ 149) (n * 2 ^ 150) (down k) in
-    times-value (fin s m e) s n (2 ^ 149) k (pow-pos 149) (refl, count s m e h)
+    times-value (fin s m e) s n (2 ^ 149) k (pow-pos 149) (refl, counted (fin s m e) h f .value .1)
     ∙ round-same binary32 s (n * up k) (2 ^ 149 * down k) (n * 2 ^ 150) (2 ^ 149 * 2 ^ z) (mul-pos (pow-pos 149) (down-pos k)) (mul-pos (pow-pos 149) (pow-pos z)) cross
 
 -- "Each finite, nonzero view-space direction"

@@ -1,20 +1,21 @@
 -- Products with powers of two. Assumes nothing.
 use Prim.Native.Nat.{ℕ, zero, suc, _+_, _-_, _*_, _/_, _%_, _^_, _≤_, _<_}
-use native.Mathlib.Nat.{mul-one, one-mul, mul-assoc, mul-comm, mul-left-comm, mul-right-comm, mul-pos, lt-of-lt-of-le}
+use native.Mathlib.Nat.{mul-one, one-mul, mul-assoc, mul-right-comm, mul-pos, lt-of-lt-of-le}
 use native.Mathlib.Omega.{arith}
 use mathlib.Core.Path.{_≡_, refl, sym, ap, ap₂, _∙_}
 use mathlib.Core.Bool.{Bool, true, false}
 use lib.Dec.{T, leb, eqb, lit<}
 use lib.IntN.{ℤ, pos, negsuc}
 use lib.Pow.{pow-add, pow-mono, shl-lt}
-use lib.Ieee.{Float, nan, inf, fin, binary32, up, down, minus, unlike, round, mul, odd, ofBits, ofFields}
+use lib.Ieee.{Float, nan, inf, fin, binary32, up, down, minus, round, mul, odd, ofBits, ofFields}
 use lib.Ieee.Fits.{down-pos}
 use lib.Ieee.Exact.{HasValue, round-exact}
-use lib.Ieee.Scale.{finite, round-same}
+use lib.Ieee.Scale.{finite}
 use borrow.Author.Tests.{leb-true, leb-false, le-leb, lt-leb, ne-eqb}
 use Rattle.d3d9_types.specs.Numbers.{floatFits}
 use Rattle.float32.specs.Root.{inUnits}
-use Rattle.directions.proofs.Magnitude.{count}
+use Rattle.float32.proofs.Units.{counted}
+use Rattle.float32.proofs.Arithmetic.{unlike-false, mul-is}
 
 -- a difference depends on nothing else
 pub minus-same : (a b c d : ℕ) → a + d ≡ c + b → minus a b ≡ minus c d
@@ -30,21 +31,11 @@ minus-same a b c d e = go (leb b a) refl
         let g : b - suc a ≡ d - suc c = omega arith in
         rw (q, lt-leb d c (omega arith)) (ap negsuc g)
 
-unsigned-factor : (s : Bool) → unlike s false ≡ s
-unsigned-factor true = refl
-unsigned-factor false = refl
-
 -- the product of a value a / c with 2 ^ e
 pub times-value : (y : Float) (s : Bool) (a c : ℕ) (e : ℤ) → 0 < c → HasValue y s a c → mul binary32 y (fin false 1 e) ≡ round binary32 s (a * up e) (c * down e)
-unfolding mul
-times-value nan s a c e C h = absurd h
-times-value (inf t) s a c e C h = absurd h
-times-value (fin t m k) s a c e C h =
-    ap (λ (b : Bool). round binary32 b (m * up k * (1 * up e)) (down k * down e)) (unsigned-factor t ∙ h .0)
-    ∙ round-same binary32 s (m * up k * (1 * up e)) (down k * down e) (a * up e) (c * down e) (mul-pos (down-pos k) (down-pos e)) (mul-pos C (down-pos e))
-    (let p : m * up k * (1 * up e) * (c * down e) ≡ m * up k * c * (up e * down e) = simp (one-mul, mul-assoc, mul-comm, mul-left-comm) in
-    let q : a * up e * (down k * down e) ≡ a * down k * (up e * down e) = simp (mul-assoc, mul-comm, mul-left-comm) in
-    p ∙ ap (λ (n : ℕ). n * (up e * down e)) (h .1) ∙ sym q)
+times-value y s a c e C h =
+    mul-is y (fin false 1 e) s false a (up e) c (down e) C (down-pos e) h (refl, ap (λ (n : ℕ). n * down e) (one-mul (up e)))
+    ∙ ap (λ (b : Bool). round binary32 b (a * up e) (c * down e)) (unlike-false s)
 
 pub minus-pos : (a b : ℕ) → b ≤ a → minus a b ≡ pos (a - b)
 minus-pos a b h = rw (le-leb b a h)
@@ -55,7 +46,7 @@ times-twice-fin : (s : Bool) (m : ℕ) (e : ℤ) (j : ℕ) → floatFits (fin s 
 times-twice-fin s m e j h l =
     let x : Float = fin s m e in
     let n : ℕ = inUnits x in
-    let value : m * up e * 2 ^ 149 ≡ n * down e = count s m e h in
+    let value : m * up e * 2 ^ 149 ≡ n * down e = counted (fin s m e) h tt .value .1 in
     let first : mul binary32 x (fin false 1 (pos 127)) ≡ round binary32 s (m * up e * 2 ^ 127) (down e * 1) = times-value x s (m * up e) (down e) (pos 127) (down-pos e) (refl, refl) in
     let exact : HasValue (round binary32 s (m * up e * 2 ^ 127) (down e * 1)) s (m * up e * 2 ^ 127) (down e * 1) =
     round-exact binary32 s (m * up e * 2 ^ 127) (down e * 1) n 127 (mul-pos (down-pos e) (lit< tt)) (lt-of-lt-of-le l (pow-mono {i = 23} {j = 24} (omega arith))) (lt-of-lt-of-le (shl-lt 23 127 l) (pow-mono {i = 150} {j = 277} (omega arith)))

@@ -1,6 +1,6 @@
 -- A scaled direction's largest component is at least 1 and below 2 in magnitude: 2 ^ 149 units of 2 ^ −149 or more, and below 2 ^ 150. Assumes nothing.
 use Prim.Native.Nat.{ℕ, _+_, _-_, _*_, _/_, _%_, _^_, _≤_, _<_, max, compare}
-use native.Mathlib.Nat.{lt-of-not-le, not-le-of-lt, le-trans, le-of-eq, le-of-lt, lt-of-lt-of-le, lt-of-le-of-lt, le-of-suc-le-suc, eq-or-lt-of-le, le-max-left, le-max-right, max-le, max-eq-left, max-eq-right, mul-assoc, mul-right-comm, mul-pos, mul-le-mul-right, mul-lt-mul-of-pos-right, le-of-mul-le-mul-right, lt-of-mul-lt-mul-right, eq-of-mul-eq-mul-right, div-lt-iff-lt-mul, div-div-eq-div-mul, mul-div-cancel, mul-comm}
+use native.Mathlib.Nat.{lt-of-not-le, not-le-of-lt, le-trans, le-of-eq, le-of-lt, lt-of-lt-of-le, lt-of-le-of-lt, le-of-suc-le-suc, eq-or-lt-of-le, le-max-left, le-max-right, max-le, max-eq-left, max-eq-right, mul-assoc, mul-right-comm, mul-pos, mul-le-mul-right, mul-lt-mul-of-pos-right, le-of-mul-le-mul-right, lt-of-mul-lt-mul-right, div-lt-iff-lt-mul, div-div-eq-div-mul, mul-comm}
 use native.Mathlib.Omega.{arith}
 use mathlib.Core.Path.{_≡_, refl, sym, ap, subst, _∙_}
 use mathlib.Core.Bool.{Bool, true, false}
@@ -9,35 +9,21 @@ use lib.Dec.{T, leb, lit<, lit≤}
 use borrow.Author.Tests.{leb-true, leb-false}
 use lib.IntN.{ℤ}
 use lib.Pow.{pow-add, pow-mono, pow-pos, shl-lt}
-use lib.Ieee.{Float, nan, inf, fin, binary32, up, down, size, round, units}
+use lib.Ieee.{Float, nan, inf, fin, binary32, size, round, units}
 use lib.Ieee.Digits.{size-lt, size-le, size-reaches}
 use lib.Ieee.Exact.{HasValue, round-exact, units-val}
-use lib.Ieee.Fits.{down-pos, kept-lt, nearest-le, round-is}
+use lib.Ieee.Fits.{kept-lt, nearest-le, round-is}
 use lib.Ieee.Nearest.{closest}
 use lib.Ieee.Scale.{finite}
 use Rattle.d3d9_types.specs.Numbers.{floatFits}
 use Rattle.d3d9_types.specs.Vector.{vectorFits}
 use Rattle.d3d9_types.specs.declared.vector.D3DVECTOR.{D3DVECTOR}
 use Rattle.float32.specs.Root.{inUnits}
-use Rattle.float32.proofs.Laws.{Shape}
+use Rattle.float32.proofs.Grid.{Short}
+use Rattle.float32.proofs.Units.{counted, units-of}
 use Rattle.directions.specs.Scale.{largest, scaled}
-use Rattle.directions.proofs.Magnitude.{count-shape, shaped, of-max, size-grows}
+use Rattle.directions.proofs.Magnitude.{of-max, size-grows}
 use Rattle.directions.proofs.Once.{once, rounded-once}
-
--- a value a / c is w units
-pub units-of : (y : Float) (s : Bool) (a c w : ℕ) → 0 < c → HasValue y s a c → a * 2 ^ 149 ≡ w * c → inUnits y ≡ w
-unfolding inUnits
-units-of nan s a c w C h e = absurd h
-units-of (inf t) s a c w C h e = absurd h
-units-of (fin t m k) s a c w C h e =
-    let v : m * up k * 2 ^ 149 ≡ w * down k =
-    eq-of-mul-eq-mul-right c C (m * up k * 2 ^ 149) (w * down k)
-    (mul-right-comm (m * up k) (2 ^ 149) c
-    ∙ ap (λ (z : ℕ). z * 2 ^ 149) (h .1)
-    ∙ mul-right-comm a (down k) (2 ^ 149)
-    ∙ ap (λ (z : ℕ). z * down k) e
-    ∙ mul-right-comm w c (down k)) in
-    ap (λ (z : ℕ). z / down k) v ∙ mul-div-cancel w (down-pos k)
 
 -- ---- a float of n units times 2 ^ (150 − z), rounded once
 
@@ -56,11 +42,11 @@ module _ (s : Bool) (m : ℕ) (e : ℤ) (h : floatFits (fin s m e)) (z : ℕ) wh
 
   -- a component as long as the largest is scaled exactly, to w units
   module _ (same : size n ≡ z) (Z : 0 < z) where
-    abbrev sh : Shape (fin false m e)
-    sh = shaped s m e h
+    abbrev sh : Short n
+    sh = counted (fin s m e) h tt .short
 
     whole : n ≡ sh .m * 2 ^ sh .j
-    whole = count-shape s m e h
+    whole = sh .is
 
     near : z ≤ sh .j + 150
     near = le-trans (le-of-eq (sym same)) (le-trans (size-le n (24 + sh .j) (rw whole (shl-lt 24 (sh .j) (sh .few)))) (omega arith))

@@ -1,12 +1,12 @@
--- What rounding does to a fraction a / c, in units of 2 ^ −149 (`grid binary32 a c`): it stays on its side of a power of two, and whole units moved up are rounded alike.
+-- What rounding does to a fraction a / c, in units of 2 ^ −149 (`grid binary32 a c`): it stays on its side of a power of two, it has at most 24 digits, and whole units moved up are rounded alike.
 -- Assumes nothing.
-use Prim.Native.Nat.{ℕ, _+_, _-_, _*_, _/_, _%_, _^_, _≤_, _<_, compare, Ordering, Ordering·lt, Ordering·eq, Ordering·gt}
+use Prim.Native.Nat.{ℕ, _+_, _-_, _*_, _/_, _%_, _^_, _≤_, _<_, compare, Ordering}
 use native.Mathlib.Nat.{le-trans, le-of-eq, lt-of-lt-of-le, lt-of-not-le, not-le-of-lt, eq-or-lt-of-le, add-zero, one-mul, mul-one, mul-assoc, mul-pos, mul-le-mul-right, mul-div-cancel, le-div-iff-mul-le, div-lt-iff-lt-mul, div-div-eq-div-mul}
 use native.Mathlib.Omega.{arith}
 use mathlib.Core.Path.{_≡_, refl, sym, ap, ap₂, subst, _∙_}
-use mathlib.Core.Bool.{Bool, true, false, not}
+use mathlib.Core.Bool.{Bool, true, false}
 use mathlib.Core.Logic.{⊎-elim}
-use lib.Dec.{T, isLe, isEq, ltb, nleb→lt, eqb→eq, lit<, lit≤}
+use lib.Dec.{ltb, lit<, lit≤}
 use lib.Pow.{pow-add, pow-mono, pow-pos, shl-lt, shr-lt, high, low}
 use lib.Ieee.{binary32, size, nearest}
 use lib.Ieee.Digits.{size-lt, size-le, size-reaches, back}
@@ -14,10 +14,18 @@ use lib.Ieee.Fits.{nearest-le, kept-lt}
 use lib.Ieee.Nearest.{closest, closest-same, nearest-ge}
 use lib.Ieee.Scale.{grid, grid-scale}
 use borrow.Author.Tests.{ltb-true, ltb-false}
+use Rattle.lemmas.proofs.Half.{less}
 
 -- the denominator of whole units
 abbrev pub unit : ℕ
 unit = 2 ^ 149
+
+-- a number of at most 24 digits, moved up
+pub record Short (p : ℕ) : Type 0 where
+  pub m : ℕ
+  pub j : ℕ
+  pub few : m < 2 ^ 24
+  pub is : p ≡ m * 2 ^ j
 
 pub long : (n j : ℕ) → 2 ^ j ≤ n → j < size n
 long n j h = lt-of-not-le (λ (g : size n ≤ j). not-le-of-lt (lt-of-lt-of-le (size-lt n) (pow-mono g)) h)
@@ -55,25 +63,16 @@ module _ (a c : ℕ) (C : 0 < c) where
       let q : a * 2 ^ 149 / u < 2 ^ i = subst (λ (x : ℕ). x < 2 ^ i) cut (shr-lt i k (subst (λ (x : ℕ). w < 2 ^ x) whole (size-lt w))) in
       le-trans (mul-le-mul-right (2 ^ k) (le-trans (nearest-le (a * 2 ^ 149 / u) half) q)) (le-trans (le-of-eq (sym (pow-add 2 i k))) (pow-mono {i = i + k} {j = j} (omega arith)))
 
-  -- what is rounded has at most 24 digits, moved up
-  pub grid-shape : (m : ℕ) × (j : ℕ) × (m < 2 ^ 24) × (grid binary32 a c ≡ m * 2 ^ j)
-  grid-shape =
+  pub short : Short (grid binary32 a c)
+  short =
       let q : ℕ = closest (a * 2 ^ 149) u in
       let top : q ≤ 2 ^ 24 = le-trans (nearest-le (a * 2 ^ 149 / u) half) (subst (λ (x : ℕ). x < 2 ^ 24) cut (kept-lt 24 w)) in
       ⊎-elim
-      (λ (e : q ≡ 2 ^ 24). (1, 24 + k, lit< tt, ap (λ (x : ℕ). x * 2 ^ k) e ∙ sym (pow-add 2 24 k) ∙ sym (one-mul (2 ^ (24 + k)))))
-      (λ (l : q < 2 ^ 24). (q, k, l, refl))
+      (λ (e : q ≡ 2 ^ 24). record { m = 1; j = 24 + k; few = lit< tt; is = ap (λ (x : ℕ). x * 2 ^ k) e ∙ sym (pow-add 2 24 k) ∙ sym (one-mul (2 ^ (24 + k))) })
+      (λ (l : q < 2 ^ 24). record { m = q; j = k; few = l; is = refl })
       (eq-or-lt-of-le top)
 
 -- ---- whole units
-
-less : (a b : ℕ) → a < b → compare a b ≡ Ordering·lt
-less a b h = go (compare a b) refl
-  where
-    go : (o : Ordering) → compare a b ≡ o → o ≡ Ordering·lt
-    go Ordering·lt e = refl
-    go Ordering·eq e = absurd (omega (arith, eqb→eq a b (subst (λ (o : Ordering). T (isEq o)) (sym e) tt)))
-    go Ordering·gt e = absurd (omega (arith, nleb→lt a b (subst (λ (o : Ordering). T (not (isLe o))) (sym e) tt)))
 
 -- e beside a number of at most 24 digits: less than half of its last place vanishes
 module _ (m j e : ℕ) (few : m < 2 ^ 24) where
