@@ -42,7 +42,7 @@ enum {
 
 /* The bytes of each item. */
 enum {
-    FF_IMAGE_BYTES = 24204,
+    FF_IMAGE_BYTES = 24224,
     FF_MATRIX_BYTES = 64,   /* 16 floats, row by row */
     FF_MATERIAL_BYTES = 68, /* 17 floats: diffuse, ambient, specular, emissive (rgba each), power */
     FF_LIGHT_BYTES = 104,   /* the type, then 25 floats: diffuse, specular, ambient (rgba each), position, direction
@@ -73,15 +73,20 @@ enum {
     FF_DIRTY_LIGHTS = 8,
     FF_DIRTY_PALETTE = 16,
     FF_DIRTY_TT = 32,
-    FF_DIRTY_ALL = 63
+    FF_DIRTY_FOG = 64,
+    FF_DIRTY_AMBIENT = 128,
+    FF_DIRTY_ALL = 255
 };
 
-/* The first row of each section in the shader's constants, and the most rows that these have. TT has none. */
+/* The first row of each section in the shader's constants, and the most rows that these have. */
 enum {
     FF_ROW_WV = 0,
     FF_ROW_PROJ = 4,
+    FF_ROW_FOG = 8,
+    FF_ROW_AMBIENT = 9,
     FF_ROW_MATERIAL = 10,
     FF_ROW_LIGHTS = 15,
+    FF_ROW_TT = 63,
     FF_ROW_PALETTE = 95,
     FF_ROWS = 1115
 };
@@ -104,7 +109,7 @@ static inline const char *ff_refusal_words(uint32_t answer) {
     case FF_SINGULAR:
         return "the matrix has no inverse";
     case FF_UNKNOWN_BITS:
-        return "dirty bits above the six";
+        return "dirty bits above the eight";
     case FF_HAS_RHW:
         return "the key is of transformed vertices";
     case FF_NO_IMAGE:
@@ -116,8 +121,8 @@ static inline const char *ff_refusal_words(uint32_t answer) {
 
 /* Images */
 
-/* Writes the image of a fresh state: identity matrices, a material of zeros, no light, all sections dirty.
- * What the bytes held before does not matter. Refuses 4. */
+/* Writes the image of a fresh state: identity matrices, a material of zeros, no light, fog, ambient colour and texture
+ * mask 0, all sections dirty. What the bytes held before does not matter. Refuses 4. */
 uint32_t ff_image_fresh(uint8_t *image, size_t image_len);
 
 /* Whether the bytes are an image. Refuses 9. */
@@ -175,6 +180,19 @@ uint32_t ff_vs_source_light_inputs(const uint8_t *image, size_t image_len, uint3
  * byte is 0. A key's light_active_mask is made from the first. Refuses 9. */
 uint32_t ff_compacted_light_masks(const uint8_t *image, size_t image_len, uint32_t *out);
 
+/* Fog, ambient colour and texture mask. An equal value still dirties. They are read back in packed rows and in the image. */
+
+/* Fog's start, end and density, each as the bits of its float, as Direct3D's render states take them. Dirty FOG. Refuse 9. */
+uint32_t ff_set_fog_start(uint8_t *image, size_t image_len, uint32_t bits);
+uint32_t ff_set_fog_end(uint8_t *image, size_t image_len, uint32_t bits);
+uint32_t ff_set_fog_density(uint8_t *image, size_t image_len, uint32_t bits);
+
+/* The ambient colour, 0xAARRGGBB. Dirties AMBIENT. Refuses 9. */
+uint32_t ff_set_ambient(uint8_t *image, size_t image_len, uint32_t color);
+
+/* The texture stages that transform, stage 0 the lowest bit. Dirties TT. Refuses 9. */
+uint32_t ff_set_texture_mask(uint8_t *image, size_t image_len, uint8_t mask);
+
 /* Dirty sections */
 
 /* Adds bits. Refuses 9, 7. */
@@ -206,29 +224,36 @@ struct ff_vs_key {
 };
 
 /* How many rows of constants a draw reads, from row 0 on: 1 for transformed vertices (has_rhw), else up to the last row of
- * its sections. Refuses 9. */
+ * its sections, those of the image's texture mask among them. Refuses 9. */
 uint32_t ff_vs_row_count(const uint8_t *image, size_t image_len, FF_KEY, uint32_t *out);
 
 /* The rows of a section. WV and PROJ 4; MATERIAL 1, lit 4, lit with specular 5; LIGHTS 6 for each light up to the mask's
- * highest bit, lit or not; PALETTE 4 for each matrix: 40 of them where indexed, else the count, none at count 0; TT none.
- * The rest of the key is not looked at. Refuses 9. */
+ * highest bit, lit or not; PALETTE 4 for each matrix: 40 of them where indexed, else the count, none at count 0; TT 4 for each
+ * stage up to the highest bit of the image's texture mask, under every key; FOG and AMBIENT 1. The rest of the key is not
+ * looked at. Refuses 9. */
 uint32_t ff_wv_section_rows(const uint8_t *image, size_t image_len, FF_KEY, uint32_t *out);
 uint32_t ff_proj_section_rows(const uint8_t *image, size_t image_len, FF_KEY, uint32_t *out);
 uint32_t ff_material_section_rows(const uint8_t *image, size_t image_len, FF_KEY, uint32_t *out);
 uint32_t ff_lights_section_rows(const uint8_t *image, size_t image_len, FF_KEY, uint32_t *out);
 uint32_t ff_palette_section_rows(const uint8_t *image, size_t image_len, FF_KEY, uint32_t *out);
 uint32_t ff_tt_section_rows(const uint8_t *image, size_t image_len, FF_KEY, uint32_t *out);
+uint32_t ff_fog_section_rows(const uint8_t *image, size_t image_len, FF_KEY, uint32_t *out);
+uint32_t ff_ambient_section_rows(const uint8_t *image, size_t image_len, FF_KEY, uint32_t *out);
 
 /* Writes the rows of a section to dst, which is as long as they are: FF_ROW_BYTES for each row that the call above answers
- * with, so that a section without rows wants an empty slice. The key is looked at as there. Refuses 9, 4.
+ * with, so that a section without rows wants an empty slice. The key is looked at as there, and for FOG. Refuses 9, 4.
  *
  * WV: the columns of world matrix 0 x view. PROJ: those of the projection. PALETTE: those of world matrix i x view, by
- * ascending i. MATERIAL: diffuse; lit ambient, specular and emissive too; then power, 0, 0, 0. */
+ * ascending i. MATERIAL: diffuse; lit ambient, specular and emissive too; then power, 0, 0, 0. TT: the columns of each stage's
+ * matrix, also of a stage whose bit is clear below a higher one. FOG: start, end, density, 0; zeros where fog_mode is 0.
+ * AMBIENT: red, green, blue and alpha, each divided by 255. */
 uint32_t ff_fill_wv_section(const uint8_t *image, size_t image_len, FF_KEY, uint8_t *dst, size_t dst_len);
 uint32_t ff_fill_proj_section(const uint8_t *image, size_t image_len, FF_KEY, uint8_t *dst, size_t dst_len);
 uint32_t ff_fill_material_section(const uint8_t *image, size_t image_len, FF_KEY, uint8_t *dst, size_t dst_len);
 uint32_t ff_fill_palette_section(const uint8_t *image, size_t image_len, FF_KEY, uint8_t *dst, size_t dst_len);
 uint32_t ff_fill_tt_section(const uint8_t *image, size_t image_len, FF_KEY, uint8_t *dst, size_t dst_len);
+uint32_t ff_fill_fog_section(const uint8_t *image, size_t image_len, FF_KEY, uint8_t *dst, size_t dst_len);
+uint32_t ff_fill_ambient_section(const uint8_t *image, size_t image_len, FF_KEY, uint8_t *dst, size_t dst_len);
 
 /* The same for the lights that light, eight at most, under preview four, six rows each, by ascending index: position as the
  * view sees it, and the kind (3 directional, 2 spot, 1 point); unit direction as the view sees it, of any finite length
@@ -240,13 +265,13 @@ uint32_t ff_fill_lights_section(const uint8_t *image, size_t image_len, FF_KEY, 
 /* Refresh: a mirror of the shader's constants, kept up with the state */
 
 /* Takes the dirty bits and clears them, writes the rows of each section that they name to the mirror, from the section's
- * first row on, and answers with the bits. TT writes nothing. Every other row keeps its bytes, whatever they are. The mask
- * is looked at whether LIGHTS is dirty or not. Refuses 9, 4, 8, 5, and leaves the bits dirty where it refuses.
+ * first row on, and answers with the bits. Every other row keeps its bytes, whatever they are. The light mask is looked at
+ * whether LIGHTS is dirty or not. Refuses 9, 4, 8, 5, and leaves the bits dirty where it refuses.
  *
  * Right after an accepted refresh the mirror holds what all the fills above write under this key, each from its section's
  * first row on, whatever it held at first. For this it is one mirror all along, its bits are taken by refreshes alone, and
- * every section is marked (ff_mark_ff_vs_dirty) before a refresh whose key differs in more than fog_mode from the last
- * accepted one's, or whose image is not the one that the last call left. A section with rows overwritten from outside is
+ * every section is marked (ff_mark_ff_vs_dirty) before a refresh whose key differs from the last accepted one's, or whose
+ * image is not the one that the last call left. A section with rows overwritten from outside is
  * right again from the first accepted refresh after it is marked. */
 uint32_t ff_refresh(uint8_t *image, size_t image_len, FF_KEY, uint8_t *mirror, size_t mirror_len, uint32_t *out);
 
@@ -260,13 +285,13 @@ uint32_t ff_refresh(uint8_t *image, size_t image_len, FF_KEY, uint8_t *mirror, s
  * is no image to be refused, and no item of another length.
  * These calls stand in liblent_state.a, liblent_lights.a, liblent_images.a and liblent_refresh.a. */
 struct ff_state {
-    uint32_t words[6053];
+    uint32_t words[6058];
 };
 
 #if defined(__cplusplus) && __cplusplus >= 201103L
-static_assert(sizeof(struct ff_state) == 24212, "a state has 24,212 bytes");
+static_assert(sizeof(struct ff_state) == 24232, "a state has 24,232 bytes");
 #elif defined(__STDC_VERSION__) && __STDC_VERSION__ >= 201112L
-_Static_assert(sizeof(struct ff_state) == 24212, "a state has 24,212 bytes");
+_Static_assert(sizeof(struct ff_state) == 24232, "a state has 24,232 bytes");
 #endif
 
 struct ff_light {
@@ -291,6 +316,13 @@ uint32_t ff_state_set_material(struct ff_state *s, const float *material);
 /* Refuse 3. */
 uint32_t ff_state_set_light_at(struct ff_state *s, uint32_t index, const struct ff_light *light);
 uint32_t ff_state_set_light_enabled_at(struct ff_state *s, uint32_t index, uint32_t enabled);
+
+/* Refuse nothing. Fog's floats cross as floats. */
+uint32_t ff_state_set_fog_start(struct ff_state *s, float start);
+uint32_t ff_state_set_fog_end(struct ff_state *s, float end);
+uint32_t ff_state_set_fog_density(struct ff_state *s, float density);
+uint32_t ff_state_set_ambient(struct ff_state *s, uint32_t color);
+uint32_t ff_state_set_texture_mask(struct ff_state *s, uint8_t mask);
 
 /* What a key is made from. Refuses nothing. */
 uint32_t ff_state_vs_source_light_inputs(const struct ff_state *s, uint32_t *out);

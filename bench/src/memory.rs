@@ -275,7 +275,7 @@ impl Both {
             || {
                 let s = black_box(&mut *self.ours);
                 // SAFETY: as above.
-                accepted(unsafe { raw::ff_state_mark_ff_vs_dirty(s, 63) });
+                accepted(unsafe { raw::ff_state_mark_ff_vs_dirty(s, 255) });
                 Self::refresh(s, KEY, black_box(&mut a));
             },
             || {

@@ -4,7 +4,7 @@
 use std::hint::black_box;
 use std::mem::MaybeUninit;
 
-use mtld3d_types::D3DTS_VIEW;
+use mtld3d_types::{D3DTS_VIEW, RENDER_STATE_COUNT};
 use original::dxso::FfVsKey;
 use original::ff_state::{FfState, FfVsDirty};
 
@@ -39,7 +39,7 @@ pub fn times() -> Vec<(&'static str, Times)> {
             shape: "over an image, PROJ",
         },
         Marked {
-            bits: 63,
+            bits: 255,
             theirs: FfVsDirty::all(),
             shape: "over an image, all",
         },
@@ -51,6 +51,9 @@ pub fn times() -> Vec<(&'static str, Times)> {
         .collect()
 }
 
+/// Fog and ambient colour 0, as in a fresh state; no texture stage transforms on either side.
+static RENDER_STATES: [u32; RENDER_STATE_COUNT] = [0; RENDER_STATE_COUNT];
+
 /// The dirty sections into the places that they have in a mirror.
 pub fn fills(s: &mut FfState, key: &FfVsKey, mirror: &mut Mirror) {
     let bits = s.take_ff_vs_dirty();
@@ -60,11 +63,20 @@ pub fn fills(s: &mut FfState, key: &FfVsKey, mirror: &mut Mirror) {
     if bits.contains(FfVsDirty::PROJ) {
         s.fill_proj_section(&mut mirror[4..8]);
     }
+    if bits.contains(FfVsDirty::FOG) {
+        FfState::fill_fog_section(&RENDER_STATES, key.fog_mode, &mut mirror[8..9]);
+    }
+    if bits.contains(FfVsDirty::AMBIENT) {
+        FfState::fill_ambient_section(&RENDER_STATES, &mut mirror[9..10]);
+    }
     if bits.contains(FfVsDirty::MATERIAL) {
         s.fill_material_section(key, &mut mirror[10..15]);
     }
     if bits.contains(FfVsDirty::LIGHTS) {
         s.fill_lights_section(key, &mut mirror[15..63]);
+    }
+    if bits.contains(FfVsDirty::TT) {
+        s.fill_tt_section(&mut mirror[63..63 + usize::from(s.tt_section_rows())]);
     }
     if bits.contains(FfVsDirty::PALETTE) {
         s.fill_palette_section(key, &mut mirror[95..255]);

@@ -9,7 +9,7 @@ use original::ff_state::FfState;
 
 use crate::raw;
 
-pub const IMAGE: usize = 24_204;
+pub const IMAGE: usize = 24_224;
 const LIGHT: usize = 104;
 
 /// The numbers of `key` as they cross.

@@ -6,7 +6,7 @@ use mtld3d_types::D3DMATRIX;
 use original::ff_state::FfState;
 
 /// The bytes of our state.
-pub const STATE: usize = 24_212;
+pub const STATE: usize = 24_232;
 
 /// The compiler takes four roots at a time here (`sqrtps`).
 #[inline(never)]

@@ -27,9 +27,11 @@ static void show_wrong(void) {
     struct packing packed;
     accept(ff_state_write_image(&state, image, sizeof image));
     pack(image, key, &packed);
-    printf("  wrong rows: WV %u, PROJ %u, MATERIAL %u, LIGHTS %u, PALETTE %u\n", wrong_in(&packed, FF_ROW_WV, packed.wv),
-           wrong_in(&packed, FF_ROW_PROJ, packed.proj), wrong_in(&packed, FF_ROW_MATERIAL, packed.material),
-           wrong_in(&packed, FF_ROW_LIGHTS, packed.lights), wrong_in(&packed, FF_ROW_PALETTE, packed.palette));
+    printf("  wrong rows: WV %u, PROJ %u, FOG %u, AMBIENT %u, MATERIAL %u, LIGHTS %u, TT %u, PALETTE %u\n",
+           wrong_in(&packed, FF_ROW_WV, packed.wv), wrong_in(&packed, FF_ROW_PROJ, packed.proj),
+           wrong_in(&packed, FF_ROW_FOG, packed.fog), wrong_in(&packed, FF_ROW_AMBIENT, packed.ambient),
+           wrong_in(&packed, FF_ROW_MATERIAL, packed.material), wrong_in(&packed, FF_ROW_LIGHTS, packed.lights),
+           wrong_in(&packed, FF_ROW_TT, packed.tt), wrong_in(&packed, FF_ROW_PALETTE, packed.palette));
 }
 
 static void refresh(void) {
@@ -60,6 +62,7 @@ static void scene(void) {
     printf("light inputs: 0x%08x\n", (unsigned)inputs);
     key.lighting_enabled = key.specular_enable = 1;
     key.light_active_mask = (uint8_t)inputs;
+    key.fog_mode = 3;
     key.vertex_blend_count = 2;
 }
 
@@ -82,6 +85,26 @@ static void frames(void) {
     refresh();
 }
 
+/* Smoke: each value dirties its section. */
+static void smoke(void) {
+    printf("fog\n");
+    accept(ff_state_set_fog_start(&state, 10));
+    accept(ff_state_set_fog_end(&state, 50));
+    accept(ff_state_set_fog_density(&state, 0.25f));
+    show_wrong();
+    refresh();
+    printf("  row 8: %g %g %g %g\n", mirror[32], mirror[33], mirror[34], mirror[35]);
+    printf("an ambient colour\n");
+    accept(ff_state_set_ambient(&state, 0xFFFF0000));
+    refresh();
+    printf("  row 9: %g %g %g %g\n", mirror[36], mirror[37], mirror[38], mirror[39]);
+    printf("the texture stages 0 and 2\n");
+    move(FF_TS_TEXTURE0 + 2, 1, 2, 3);
+    accept(ff_state_set_texture_mask(&state, 5));
+    show_wrong();
+    refresh();
+}
+
 /* A refused call leaves state, mirror and number as they were. */
 static void refused(void) {
     uint8_t found[FF_IMAGE_BYTES], image[FF_IMAGE_BYTES];
@@ -95,7 +118,7 @@ static void refused(void) {
     show_answer("light mask 1", ff_state_refresh(&state, FF_KEY_OF(wrong), mirror, 4 * FF_ROWS, &bits));
     show_answer("a mirror of 4459 floats", ff_state_refresh(&state, FF_KEY_OF(key), mirror, 4 * FF_ROWS - 1, &bits));
     show_answer("state 512", ff_state_set_transform(&state, 512, mirror));
-    show_answer("bits 64", ff_state_mark_ff_vs_dirty(&state, 64));
+    show_answer("bits 256", ff_state_mark_ff_vs_dirty(&state, 256));
     accept(ff_state_write_image(&state, image, sizeof image)); /* two states are compared by their images */
     printf("left as found: state %s, mirror %s, number %s\n", memcmp(found, image, sizeof image) ? "no" : "yes",
            memcmp(held, mirror, sizeof mirror) ? "no" : "yes", bits == 1234 ? "yes" : "no");
@@ -119,6 +142,7 @@ static void stored(void) {
 int main(void) {
     scene();
     frames();
+    smoke();
     refused();
     stored();
     return 0;

@@ -26,13 +26,15 @@ static unsigned wrong_in(const struct packing *packed, int first, uint32_t count
 static void show_wrong(void) {
     struct packing packed;
     pack(image, key, &packed);
-    printf("  wrong rows: WV %u, PROJ %u, MATERIAL %u, LIGHTS %u, PALETTE %u\n", wrong_in(&packed, FF_ROW_WV, packed.wv),
-           wrong_in(&packed, FF_ROW_PROJ, packed.proj), wrong_in(&packed, FF_ROW_MATERIAL, packed.material),
-           wrong_in(&packed, FF_ROW_LIGHTS, packed.lights), wrong_in(&packed, FF_ROW_PALETTE, packed.palette));
+    printf("  wrong rows: WV %u, PROJ %u, FOG %u, AMBIENT %u, MATERIAL %u, LIGHTS %u, TT %u, PALETTE %u\n",
+           wrong_in(&packed, FF_ROW_WV, packed.wv), wrong_in(&packed, FF_ROW_PROJ, packed.proj),
+           wrong_in(&packed, FF_ROW_FOG, packed.fog), wrong_in(&packed, FF_ROW_AMBIENT, packed.ambient),
+           wrong_in(&packed, FF_ROW_MATERIAL, packed.material), wrong_in(&packed, FF_ROW_LIGHTS, packed.lights),
+           wrong_in(&packed, FF_ROW_TT, packed.tt), wrong_in(&packed, FF_ROW_PALETTE, packed.palette));
 }
 
 static void refresh(void) {
-    static const char *const names[] = {" WV", " PROJ", " MATERIAL", " LIGHTS", " PALETTE", " TT"};
+    static const char *const names[] = {" WV", " PROJ", " MATERIAL", " LIGHTS", " PALETTE", " TT", " FOG", " AMBIENT"};
     uint8_t before[FF_MIRROR_BYTES];
     uint32_t bits;
     int changed = 0;
@@ -42,7 +44,7 @@ static void refresh(void) {
     for (int at = 0; at < FF_MIRROR_BYTES; at += FF_ROW_BYTES)
         changed += memcmp(before + at, mirror + at, FF_ROW_BYTES) != 0;
     printf("  refresh: bits %u", (unsigned)bits);
-    for (int i = 0; i < 6; i++)
+    for (int i = 0; i < 8; i++)
         printf("%s", bits >> i & 1 ? names[i] : "");
     printf("; rows changed %d, kept %d\n", changed, FF_ROWS - changed);
     show_wrong();
@@ -75,7 +77,7 @@ static void set_light(uint32_t index, uint32_t type) {
     accept(ff_set_light_enabled_at(image, sizeof image, index, 1));
 }
 
-/* Two lights and two blended matrices: 4 + 4 + 5 + 12 + 8 rows. */
+/* Two lights, two blended matrices and a texture matrix: 4 + 4 + 1 + 1 + 5 + 12 + 4 + 8 rows. */
 static void scene(void) {
     uint32_t masks;
 
@@ -84,6 +86,7 @@ static void scene(void) {
     set_power(bits_of(20));
     set_light(0, FF_LIGHT_DIRECTIONAL);
     set_light(70, FF_LIGHT_SPOT);
+    accept(ff_set_texture_mask(image, sizeof image, 1));
     accept(ff_compacted_light_masks(image, sizeof image, &masks));
     key.lighting_enabled = key.specular_enable = 1;
     key.light_active_mask = (uint8_t)masks;
@@ -114,6 +117,28 @@ static void frames(void) {
     printf("the projection and a texture matrix change\n");
     move(FF_TS_PROJECTION, 0, 0, 1);
     move(FF_TS_TEXTURE0, 0, 0, 1);
+    refresh();
+}
+
+/* Smoke: what is set is written, and so is a texture mask that grows. */
+static void smoke(void) {
+    printf("fog and ambient colour change\n");
+    accept(ff_set_fog_start(image, sizeof image, bits_of(10)));
+    accept(ff_set_fog_end(image, sizeof image, bits_of(50)));
+    accept(ff_set_fog_density(image, sizeof image, bits_of(0.25f)));
+    accept(ff_set_ambient(image, sizeof image, 0xFF804020));
+    refresh();
+    show_row("  fog, mode 0", mirror, FF_ROW_FOG);
+    show_row("  ambient", mirror, FF_ROW_AMBIENT);
+    printf("another fog mode is another key\n");
+    key.fog_mode = 3;
+    show_wrong();
+    mark(FF_DIRTY_ALL);
+    refresh();
+    show_row("  fog, mode 3", mirror, FF_ROW_FOG);
+    printf("three texture stages more\n");
+    accept(ff_set_texture_mask(image, sizeof image, 8));
+    show_wrong();
     refresh();
 }
 
@@ -183,6 +208,7 @@ static void refusals(void) {
 int main(void) {
     scene();
     frames();
+    smoke();
     overwritten();
     other_keys_and_images();
     refusals();

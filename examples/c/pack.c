@@ -11,6 +11,14 @@ static void show_row_count(const char *title, struct ff_vs_key key) {
     printf("rows of a draw, %s: %u\n", title, (unsigned)count);
 }
 
+static void show_textured(uint8_t mask) {
+    const struct ff_vs_key unlit = {0};
+    char title[32];
+    accept(ff_set_texture_mask(image, sizeof image, mask));
+    snprintf(title, sizeof title, "texture mask 0x%02x", (unsigned)mask);
+    show_row_count(title, unlit);
+}
+
 static void row_counts(void) {
     const struct ff_vs_key unlit = {0};
     struct ff_vs_key lit = {0}, blended = {0}, transformed = {0};
@@ -31,6 +39,9 @@ static void row_counts(void) {
     show_row_count("indexed", blended);
     transformed.has_rhw = 1;
     show_row_count("transformed", transformed);
+    show_textured(0x01);
+    show_textured(0x04);
+    show_textured(0x80);
 }
 
 static void scene(void) {
@@ -51,6 +62,36 @@ static void scene(void) {
     put_number(light, 0, FF_LIGHT_SPOT); /* theta and phi 0 */
     accept(ff_set_light_at(image, sizeof image, 70, light, sizeof light));
     accept(ff_set_light_enabled_at(image, sizeof image, 70, 1));
+}
+
+/* Fog, the ambient colour and the texture matrices up to the mask's highest bit. */
+static void smoke(struct ff_vs_key key) {
+    const float turned[16] = {0, 1, 0, 0, -1, 0, 0, 0, 0, 0, 1, 0, 2, 3, 4, 1};
+    uint8_t matrix[FF_MATRIX_BYTES];
+
+    accept(ff_set_fog_start(image, sizeof image, bits_of(10)));
+    accept(ff_set_fog_end(image, sizeof image, bits_of(50)));
+    accept(ff_set_fog_density(image, sizeof image, bits_of(0.25f)));
+    accept(ff_set_ambient(image, sizeof image, 0xFF804020));
+    accept(ff_set_texture_mask(image, sizeof image, 4));
+    put_matrix(matrix, turned);
+    accept(ff_set_transform(image, sizeof image, FF_TS_TEXTURE0 + 1, matrix, sizeof matrix));
+    pack(image, key, &packed);
+    show_row("fog, mode 0", packed.rows, FF_ROW_FOG);
+    key.fog_mode = 3;
+    pack(image, key, &packed);
+    show_row("fog, mode 3", packed.rows, FF_ROW_FOG);
+    printf("ambient: 0x%08x 0x%08x 0x%08x 0x%08x\n", (unsigned)get_number(packed.rows, 4 * FF_ROW_AMBIENT),
+           (unsigned)get_number(packed.rows, 4 * FF_ROW_AMBIENT + 1), (unsigned)get_number(packed.rows, 4 * FF_ROW_AMBIENT + 2),
+           (unsigned)get_number(packed.rows, 4 * FF_ROW_AMBIENT + 3));
+    printf("rows of texture matrices: %u\n", (unsigned)packed.tt);
+    show_row("the second texture matrix, row 0", packed.rows, FF_ROW_TT + 4);
+    show_answer("two rows for FOG",
+                ff_fill_fog_section(image, sizeof image, FF_KEY_OF(key), SECTION(packed.rows, FF_ROW_FOG, 2)));
+    show_answer("no row for AMBIENT",
+                ff_fill_ambient_section(image, sizeof image, FF_KEY_OF(key), SECTION(packed.rows, FF_ROW_AMBIENT, 0)));
+    show_answer("eight rows for TT",
+                ff_fill_tt_section(image, sizeof image, FF_KEY_OF(key), SECTION(packed.rows, FF_ROW_TT, 8)));
 }
 
 /* Nine lights light: eight of them are packed for the main screen, four for the preview. */
@@ -97,6 +138,7 @@ int main(void) {
     printf("its spot's scale %.7g and offset %.7g\n", get(rows + (FF_ROW_LIGHTS + 11) * FF_ROW_BYTES, 3),
            get(rows + (FF_ROW_LIGHTS + 9) * FF_ROW_BYTES, 3));
     show_row("the second world matrix, row 0", rows, FF_ROW_PALETTE + 4);
+    smoke(key);
 
     show_answer("five rows for WV", ff_fill_wv_section(image, sizeof image, FF_KEY_OF(key), SECTION(rows, FF_ROW_WV, 5)));
     key.light_active_mask = 2;

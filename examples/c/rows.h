@@ -7,7 +7,7 @@
 /* All sections of a state under a key, and how many rows each has. */
 struct packing {
     uint8_t rows[FF_MIRROR_BYTES];
-    uint32_t wv, proj, material, lights, palette, tt;
+    uint32_t wv, proj, fog, ambient, material, lights, tt, palette;
 };
 
 /* The bytes of so many rows, from a section's first on. */
@@ -19,14 +19,18 @@ static inline void pack(const uint8_t image[FF_IMAGE_BYTES], struct ff_vs_key ke
     accept(ff_fill_wv_section(image, n, FF_KEY_OF(key), SECTION(to->rows, FF_ROW_WV, to->wv)));
     accept(ff_proj_section_rows(image, n, FF_KEY_OF(key), &to->proj));
     accept(ff_fill_proj_section(image, n, FF_KEY_OF(key), SECTION(to->rows, FF_ROW_PROJ, to->proj)));
+    accept(ff_fog_section_rows(image, n, FF_KEY_OF(key), &to->fog));
+    accept(ff_fill_fog_section(image, n, FF_KEY_OF(key), SECTION(to->rows, FF_ROW_FOG, to->fog)));
+    accept(ff_ambient_section_rows(image, n, FF_KEY_OF(key), &to->ambient));
+    accept(ff_fill_ambient_section(image, n, FF_KEY_OF(key), SECTION(to->rows, FF_ROW_AMBIENT, to->ambient)));
     accept(ff_material_section_rows(image, n, FF_KEY_OF(key), &to->material));
     accept(ff_fill_material_section(image, n, FF_KEY_OF(key), SECTION(to->rows, FF_ROW_MATERIAL, to->material)));
     accept(ff_lights_section_rows(image, n, FF_KEY_OF(key), &to->lights));
     accept(ff_fill_lights_section(image, n, FF_KEY_OF(key), SECTION(to->rows, FF_ROW_LIGHTS, to->lights)));
+    accept(ff_tt_section_rows(image, n, FF_KEY_OF(key), &to->tt));
+    accept(ff_fill_tt_section(image, n, FF_KEY_OF(key), SECTION(to->rows, FF_ROW_TT, to->tt)));
     accept(ff_palette_section_rows(image, n, FF_KEY_OF(key), &to->palette));
     accept(ff_fill_palette_section(image, n, FF_KEY_OF(key), SECTION(to->rows, FF_ROW_PALETTE, to->palette)));
-    accept(ff_tt_section_rows(image, n, FF_KEY_OF(key), &to->tt));
-    accept(ff_fill_tt_section(image, n, FF_KEY_OF(key), SECTION(to->rows, 0, to->tt))); /* no rows */
 }
 
 static inline void show_row(const char *title, const uint8_t *rows, int row) {

@@ -104,13 +104,46 @@ static void lights(void) {
     show_answer("a light after 56", set_light(4000000000u, FF_LIGHT_POINT));
 }
 
+static void smoke(void) {
+    const int tail = FF_IMAGE_BYTES / 4 - 5;
+
+    show_dirty("dirty before the smoke");
+    accept(ff_set_fog_start(image, sizeof image, bits_of(10)));
+    show_dirty("dirty after fog's start");
+    accept(ff_set_fog_end(image, sizeof image, bits_of(50)));
+    show_dirty("dirty after fog's end");
+    accept(ff_set_fog_density(image, sizeof image, bits_of(0.25f)));
+    show_dirty("dirty after fog's density");
+    accept(ff_set_ambient(image, sizeof image, 0xFF804020));
+    show_dirty("dirty after the ambient colour");
+    accept(ff_set_texture_mask(image, sizeof image, 5));
+    show_dirty("dirty after the texture mask");
+    accept(ff_set_texture_mask(image, sizeof image, 5));
+    show_dirty("dirty after the same mask");
+    printf("the image ends with %g %g %g 0x%08x 0x%08x\n", get(image, tail), get(image, tail + 1), get(image, tail + 2),
+           (unsigned)get_number(image, tail + 3), (unsigned)get_number(image, tail + 4));
+
+    put_number(image, tail + 4, 256);
+    show_answer("an image with the texture mask 256", ff_image_check(image, sizeof image));
+    show_answer("fog's start there", ff_set_fog_start(image, sizeof image, 0));
+    show_answer("fog's end there", ff_set_fog_end(image, sizeof image, 0));
+    show_answer("fog's density there", ff_set_fog_density(image, sizeof image, 0));
+    show_answer("the ambient colour there", ff_set_ambient(image, sizeof image, 0));
+    show_answer("the texture mask there", ff_set_texture_mask(image, sizeof image, 0));
+    put_number(image, tail + 4, 5);
+    put_number(image, tail + 1, 0x7FC00001);
+    show_answer("an image with another NaN in fog's end", ff_image_check(image, sizeof image));
+    put(image, tail + 1, 50);
+}
+
 static void images(void) {
     uint8_t kept[FF_IMAGE_BYTES];
 
-    show_answer("bits 64", ff_mark_ff_vs_dirty(image, sizeof image, 64));
+    show_answer("bits 256", ff_mark_ff_vs_dirty(image, sizeof image, 256));
     accept(ff_mark_ff_vs_dirty(image, sizeof image, FF_DIRTY_TT));
     show_answer("the image", ff_image_check(image, sizeof image));
     show_answer("one byte less of it", ff_image_check(image, sizeof image - 1));
+    show_answer("its first 24204 bytes", ff_image_check(image, 24204));
 
     image[17927] = 1; /* a byte that is always 0 */
     memcpy(kept, image, sizeof image);
@@ -125,6 +158,7 @@ int main(void) {
     matrices();
     material();
     lights();
+    smoke();
     images();
     return 0;
 }

@@ -3,9 +3,9 @@
 use std::error::Error;
 
 use ff_state::{
-    ALL_DIRTY, Color, D3DLIGHT_SPOT, D3DTS_VIEW, D3DTS_WORLD, DIRTY_LIGHTS, FfImage, Light,
-    Material, Matrix, Mirror, ROW_LIGHTS, ROW_MATERIAL, ROW_PALETTE, ROW_PROJ, ROW_WV, Refusal,
-    Row, VsKey,
+    ALL_DIRTY, Color, D3DLIGHT_SPOT, D3DTS_TEXTURE0, D3DTS_VIEW, D3DTS_WORLD, DIRTY_LIGHTS,
+    FfImage, Light, Material, Matrix, Mirror, ROW_AMBIENT, ROW_FOG, ROW_LIGHTS, ROW_MATERIAL,
+    ROW_PALETTE, ROW_PROJ, ROW_TT, ROW_WV, Refusal, Row, VsKey,
 };
 
 fn moved(x: f32, y: f32, z: f32) -> Matrix {
@@ -14,11 +14,12 @@ fn moved(x: f32, y: f32, z: f32) -> Matrix {
     m
 }
 
-/// Lit by the state's lights, two matrices blended.
+/// Lit by the state's lights, in linear fog, two matrices blended.
 fn key(state: &FfImage) -> VsKey {
     VsKey {
         lighting_enabled: true,
         light_active_mask: state.compacted_light_masks().active,
+        fog_mode: 3,
         vertex_blend_count: 2,
         ..VsKey::default()
     }
@@ -31,22 +32,26 @@ fn pack(state: &FfImage) -> Result<(), Box<dyn Error>> {
     let counts = [
         state.wv_section_rows(&key),
         state.proj_section_rows(&key),
+        state.fog_section_rows(&key),
+        state.ambient_section_rows(&key),
         state.material_section_rows(&key),
         state.lights_section_rows(&key),
-        state.palette_section_rows(&key),
         state.tt_section_rows(&key),
+        state.palette_section_rows(&key),
     ];
     println!("rows of its sections: {counts:?}");
     println!("WV, row 0: {:?}", state.fill_wv_section(&key)[0]);
     println!("PROJ, row 0: {:?}", state.fill_proj_section(&key)[0]);
+    println!("FOG: {:?}", state.fill_fog_section(&key));
+    println!("AMBIENT: {:?}", state.fill_ambient_section(&key));
     println!(
         "MATERIAL, row 0: {:?}",
         state.fill_material_section(&key)[0]
     );
     let lights = state.fill_lights_section(&key)?;
     println!("LIGHTS, rows 0 and 1: {:?} {:?}", lights[0], lights[1]);
+    println!("TT, row 4: {:?}", state.fill_tt_section(&key)[4]);
     println!("PALETTE, row 4: {:?}", state.fill_palette_section(&key)[4]);
-    println!("TT: {:?}", state.fill_tt_section(&key));
     let wrong = VsKey {
         light_active_mask: 2,
         ..key
@@ -63,13 +68,16 @@ fn differ(a: &Row, b: &Row) -> bool {
     !a.iter().zip(b).all(|(a, b)| alike(a, b))
 }
 
-/// In how many rows of WV, PROJ, MATERIAL, LIGHTS and PALETTE a mirror differs from a full packing.
-fn wrong_rows(state: &FfImage, key: &VsKey, mirror: &Mirror) -> Result<[usize; 5], Refusal> {
+/// In how many rows of WV, PROJ, FOG, AMBIENT, MATERIAL, LIGHTS, TT and PALETTE a mirror differs from a full packing.
+fn wrong_rows(state: &FfImage, key: &VsKey, mirror: &Mirror) -> Result<[usize; 8], Refusal> {
     let sections = [
         (ROW_WV, state.fill_wv_section(key)),
         (ROW_PROJ, state.fill_proj_section(key)),
+        (ROW_FOG, state.fill_fog_section(key)),
+        (ROW_AMBIENT, state.fill_ambient_section(key)),
         (ROW_MATERIAL, state.fill_material_section(key)),
         (ROW_LIGHTS, state.fill_lights_section(key)?),
+        (ROW_TT, state.fill_tt_section(key)),
         (ROW_PALETTE, state.fill_palette_section(key)),
     ];
     let held = mirror.rows();
@@ -198,6 +206,19 @@ fn main() -> Result<(), Box<dyn Error>> {
     println!("{:?}", state.compacted_light_masks());
     if let Err(refusal) = state.get_light_at(0) {
         println!("light 0: {refusal}");
+    }
+
+    state.set_fog_start(10.0);
+    state.set_fog_end(50.0);
+    state.set_fog_density(0.25);
+    println!("dirty: {}", state.take_ff_vs_dirty());
+    state.set_ambient(0xFF80_4020);
+    println!("dirty: {}", state.take_ff_vs_dirty());
+    state.set_transform(D3DTS_TEXTURE0 + 1, &away)?;
+    state.set_texture_mask(2);
+    println!("dirty: {}", state.take_ff_vs_dirty());
+    if let Err(refusal) = state.mark_ff_vs_dirty(ALL_DIRTY + 1) {
+        println!("bits 256: {refusal}");
     }
 
     pack(&state)?;

@@ -27,8 +27,12 @@ pub const DIRTY_LIGHTS: u32 = 8;
 pub const DIRTY_PALETTE: u32 = 16;
 /// The dirty bit of TT.
 pub const DIRTY_TT: u32 = 32;
-/// The bits of all six sections.
-pub const ALL_DIRTY: u32 = 63;
+/// The dirty bit of FOG.
+pub const DIRTY_FOG: u32 = 64;
+/// The dirty bit of AMBIENT.
+pub const DIRTY_AMBIENT: u32 = 128;
+/// The bits of all eight sections.
+pub const ALL_DIRTY: u32 = 255;
 
 /// How many lights can be stored from index 8 on.
 pub const OVERFLOW_LIGHTS: usize = 56;
@@ -67,9 +71,9 @@ type Reading<T> = unsafe extern "C" fn(*const u8, usize, *mut T) -> u32;
 
 impl FfImage {
     /// The bytes of an image.
-    pub const BYTES: usize = 24_204;
+    pub const BYTES: usize = 24_224;
 
-    /// Identity matrices, a material of zeros, no light, every section dirty.
+    /// Identity matrices, a material of zeros, no light, fog, ambient colour and texture mask 0, every section dirty.
     #[must_use]
     pub fn fresh() -> Self {
         let mut bytes = Box::new([0; Self::BYTES]);
@@ -290,6 +294,6 @@ impl FfImage {
 }
 
 /// The answer of a call that is refused only where the bytes are no image.
-fn readable(answer: u32) {
+pub(crate) fn readable(answer: u32) {
     Refusal::of(answer).expect("the bytes of an FfImage are an image");
 }

@@ -1,6 +1,6 @@
 //! The vertex state of Direct3D 9's fixed-function pipeline, over the proved library libhost.a.
 //!
-//! A state is an [`FfImage`], 24,204 bytes that may be stored, sent and read in again. Every call is defined for
+//! A state is an [`FfImage`], 24,224 bytes that may be stored, sent and read in again. Every call is defined for
 //! every argument: it is accepted, or answers with one [`Refusal`] and changes nothing.
 //!
 //! ```
@@ -62,15 +62,18 @@ mod packing;
 mod raw;
 mod records;
 mod refusal;
+mod render_states;
 mod state;
 
 pub use arithmetic::{cos, inverse, mat_mul, sqrt, transpose};
 pub use image::{
-    ALL_DIRTY, D3DTS_PROJECTION, D3DTS_TEXTURE0, D3DTS_VIEW, D3DTS_WORLD, DIRTY_LIGHTS,
-    DIRTY_MATERIAL, DIRTY_PALETTE, DIRTY_PROJ, DIRTY_TT, DIRTY_WV, FfImage, LightMasks,
-    OVERFLOW_LIGHTS,
+    ALL_DIRTY, D3DTS_PROJECTION, D3DTS_TEXTURE0, D3DTS_VIEW, D3DTS_WORLD, DIRTY_AMBIENT, DIRTY_FOG,
+    DIRTY_LIGHTS, DIRTY_MATERIAL, DIRTY_PALETTE, DIRTY_PROJ, DIRTY_TT, DIRTY_WV, FfImage,
+    LightMasks, OVERFLOW_LIGHTS,
 };
-pub use mirror::{Mirror, ROW_LIGHTS, ROW_MATERIAL, ROW_PALETTE, ROW_PROJ, ROW_WV};
+pub use mirror::{
+    Mirror, ROW_AMBIENT, ROW_FOG, ROW_LIGHTS, ROW_MATERIAL, ROW_PALETTE, ROW_PROJ, ROW_TT, ROW_WV,
+};
 pub use packing::{Row, VsKey};
 pub use records::{
     Color, D3DLIGHT_DIRECTIONAL, D3DLIGHT_POINT, D3DLIGHT_SPOT, Light, Material, Matrix, Vector,

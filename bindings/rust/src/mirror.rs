@@ -11,10 +11,16 @@ use crate::refusal::Refusal;
 pub const ROW_WV: usize = 0;
 /// The first row of PROJ.
 pub const ROW_PROJ: usize = 4;
+/// The first row of FOG.
+pub const ROW_FOG: usize = 8;
+/// The first row of AMBIENT.
+pub const ROW_AMBIENT: usize = 9;
 /// The first row of MATERIAL.
 pub const ROW_MATERIAL: usize = 10;
 /// The first row of LIGHTS.
 pub const ROW_LIGHTS: usize = 15;
+/// The first row of TT.
+pub const ROW_TT: usize = 63;
 /// The first row of PALETTE.
 pub const ROW_PALETTE: usize = 95;
 
@@ -71,16 +77,16 @@ impl Mirror {
 
 impl FfImage {
     /// Takes the dirty bits and clears them, writes the rows of each section that they name from the section's first row
-    /// on, and answers with the bits. TT writes nothing; every other row keeps its bytes.
+    /// on, and answers with the bits. Every other row keeps its bytes.
     ///
     /// Or answers with [`Refusal::HasRhw`] or [`Refusal::WrongMask`], and the bits stay dirty. The mask is looked at
     /// whether LIGHTS is dirty or not.
     ///
     /// Right after an accepted refresh the mirror holds what all the fills answer under this key, each from its section's
     /// first row on. For this it is one mirror all along, its bits are taken by refreshes alone, and every section is
-    /// marked ([`FfImage::mark_ff_vs_dirty`]) before a refresh whose key differs in more than `fog_mode` from the last
-    /// accepted one's, or whose state was read in ([`FfImage::from_bytes`]) or is another one than before. A section with
-    /// rows overwritten from outside is right again from the first accepted refresh after it is marked.
+    /// marked ([`FfImage::mark_ff_vs_dirty`]) before a refresh whose key differs from the last accepted one's, or whose
+    /// state was read in ([`FfImage::from_bytes`]) or is another one than before. A section with rows overwritten from
+    /// outside is right again from the first accepted refresh after it is marked.
     pub fn refresh(&mut self, key: &VsKey, mirror: &mut Mirror) -> Result<u32, Refusal> {
         let mut out = 0;
         let [a, b, c, d, e, f, g, h] = fields(key);

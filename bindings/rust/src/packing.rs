@@ -26,7 +26,7 @@ pub struct VsKey {
     /// 0, or the mask of the lights that are packed: [`LightMasks::active`](crate::LightMasks::active) of
     /// [`FfImage::compacted_light_masks`], in a preview `active & 15`.
     pub light_active_mask: u8,
-    /// The vertex fog; no row and no count depends on it.
+    /// The vertex fog: the row of FOG holds it under any number but 0. No count depends on it.
     pub fog_mode: u8,
     /// How many matrices blend; 0 where none do.
     pub vertex_blend_count: u8,
@@ -74,10 +74,22 @@ impl FfImage {
         self.counted(raw::ff_palette_section_rows, key) as usize
     }
 
-    /// None: the texture mask counts as 0.
+    /// 4 for each stage up to the highest bit of the texture mask ([`FfImage::set_texture_mask`]), under every key.
     #[must_use]
     pub fn tt_section_rows(&self, key: &VsKey) -> usize {
         self.counted(raw::ff_tt_section_rows, key) as usize
+    }
+
+    /// 1.
+    #[must_use]
+    pub fn fog_section_rows(&self, key: &VsKey) -> usize {
+        self.counted(raw::ff_fog_section_rows, key) as usize
+    }
+
+    /// 1.
+    #[must_use]
+    pub fn ambient_section_rows(&self, key: &VsKey) -> usize {
+        self.counted(raw::ff_ambient_section_rows, key) as usize
     }
 
     /// The columns of world matrix 0 × view.
@@ -124,11 +136,27 @@ impl FfImage {
             .expect("as many rows as the library counts are accepted")
     }
 
-    /// No rows.
+    /// The columns of each stage's texture matrix, also of a stage whose bit is clear below a higher one.
     #[must_use]
     pub fn fill_tt_section(&self, key: &VsKey) -> Vec<Row> {
         let rows = self.tt_section_rows(key);
         self.filled(raw::ff_fill_tt_section, key, rows)
+            .expect("as many rows as the library counts are accepted")
+    }
+
+    /// Fog's start, end, density and 0; zeros where the key's `fog_mode` is 0.
+    #[must_use]
+    pub fn fill_fog_section(&self, key: &VsKey) -> Vec<Row> {
+        let rows = self.fog_section_rows(key);
+        self.filled(raw::ff_fill_fog_section, key, rows)
+            .expect("as many rows as the library counts are accepted")
+    }
+
+    /// The ambient colour's red, green, blue and alpha, each divided by 255.
+    #[must_use]
+    pub fn fill_ambient_section(&self, key: &VsKey) -> Vec<Row> {
+        let rows = self.ambient_section_rows(key);
+        self.filled(raw::ff_fill_ambient_section, key, rows)
             .expect("as many rows as the library counts are accepted")
     }
 
@@ -204,6 +232,25 @@ mod tests {
                 };
                 let filled = state.filled(raw::ff_fill_lights_section, &key, rows);
                 assert_eq!(filled.err(), expected, "{rows} rows, {key:?}");
+            }
+        }
+    }
+
+    /// One row of FOG and of AMBIENT under every key; those of TT by the state's mask.
+    #[test]
+    fn rows_of_another_number_are_refused() {
+        let mut state = FfImage::fresh();
+        state.set_texture_mask(4);
+        let sections: [(Filling, usize); 3] = [
+            (raw::ff_fill_fog_section, 1),
+            (raw::ff_fill_ambient_section, 1),
+            (raw::ff_fill_tt_section, 12),
+        ];
+        for (fill, right) in sections {
+            for rows in [0, 1, 2, 11, 12, 13, 32] {
+                let expected = (rows != right).then_some(Refusal::WrongLength);
+                let filled = state.filled(fill, &VsKey::default(), rows);
+                assert_eq!(filled.err(), expected, "{rows} rows for {right}");
             }
         }
     }

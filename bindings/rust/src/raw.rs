@@ -3,11 +3,11 @@
 /// `struct ff_state`: a state in memory, whose bytes the library alone reads and writes.
 #[repr(C)]
 #[derive(Clone, PartialEq)]
-pub struct FfState([u32; 6053]);
+pub struct FfState([u32; 6058]);
 
 impl FfState {
     /// Memory for a state, which `ff_state_fresh` or `ff_state_read_image` makes one.
-    pub const ZEROS: Self = Self([0; 6053]);
+    pub const ZEROS: Self = Self([0; 6058]);
 }
 
 /// `struct ff_light`: the type, then 25 floats.
@@ -89,6 +89,11 @@ unsafe extern "C" {
     ) -> u32;
     pub fn ff_vs_source_light_inputs(image: *const u8, image_len: usize, out: *mut u32) -> u32;
     pub fn ff_compacted_light_masks(image: *const u8, image_len: usize, out: *mut u32) -> u32;
+    pub fn ff_set_fog_start(image: *mut u8, image_len: usize, bits: u32) -> u32;
+    pub fn ff_set_fog_end(image: *mut u8, image_len: usize, bits: u32) -> u32;
+    pub fn ff_set_fog_density(image: *mut u8, image_len: usize, bits: u32) -> u32;
+    pub fn ff_set_ambient(image: *mut u8, image_len: usize, color: u32) -> u32;
+    pub fn ff_set_texture_mask(image: *mut u8, image_len: usize, mask: u8) -> u32;
     pub fn ff_mark_ff_vs_dirty(image: *mut u8, image_len: usize, bits: u32) -> u32;
     pub fn ff_take_ff_vs_dirty(image: *mut u8, image_len: usize, out: *mut u32) -> u32;
 
@@ -116,12 +121,16 @@ unsafe extern "C" {
     pub fn ff_lights_section_rows(image: *const u8, image_len: usize, has_rhw: u8, lighting_enabled: u8, specular_enable: u8, vertex_blend_indexed: u8, preview: u8, light_active_mask: u8, fog_mode: u8, vertex_blend_count: u8, out: *mut u32) -> u32;
     pub fn ff_palette_section_rows(image: *const u8, image_len: usize, has_rhw: u8, lighting_enabled: u8, specular_enable: u8, vertex_blend_indexed: u8, preview: u8, light_active_mask: u8, fog_mode: u8, vertex_blend_count: u8, out: *mut u32) -> u32;
     pub fn ff_tt_section_rows(image: *const u8, image_len: usize, has_rhw: u8, lighting_enabled: u8, specular_enable: u8, vertex_blend_indexed: u8, preview: u8, light_active_mask: u8, fog_mode: u8, vertex_blend_count: u8, out: *mut u32) -> u32;
+    pub fn ff_fog_section_rows(image: *const u8, image_len: usize, has_rhw: u8, lighting_enabled: u8, specular_enable: u8, vertex_blend_indexed: u8, preview: u8, light_active_mask: u8, fog_mode: u8, vertex_blend_count: u8, out: *mut u32) -> u32;
+    pub fn ff_ambient_section_rows(image: *const u8, image_len: usize, has_rhw: u8, lighting_enabled: u8, specular_enable: u8, vertex_blend_indexed: u8, preview: u8, light_active_mask: u8, fog_mode: u8, vertex_blend_count: u8, out: *mut u32) -> u32;
     pub fn ff_fill_wv_section(image: *const u8, image_len: usize, has_rhw: u8, lighting_enabled: u8, specular_enable: u8, vertex_blend_indexed: u8, preview: u8, light_active_mask: u8, fog_mode: u8, vertex_blend_count: u8, dst: *mut u8, dst_len: usize) -> u32;
     pub fn ff_fill_proj_section(image: *const u8, image_len: usize, has_rhw: u8, lighting_enabled: u8, specular_enable: u8, vertex_blend_indexed: u8, preview: u8, light_active_mask: u8, fog_mode: u8, vertex_blend_count: u8, dst: *mut u8, dst_len: usize) -> u32;
     pub fn ff_fill_material_section(image: *const u8, image_len: usize, has_rhw: u8, lighting_enabled: u8, specular_enable: u8, vertex_blend_indexed: u8, preview: u8, light_active_mask: u8, fog_mode: u8, vertex_blend_count: u8, dst: *mut u8, dst_len: usize) -> u32;
     pub fn ff_fill_lights_section(image: *const u8, image_len: usize, has_rhw: u8, lighting_enabled: u8, specular_enable: u8, vertex_blend_indexed: u8, preview: u8, light_active_mask: u8, fog_mode: u8, vertex_blend_count: u8, dst: *mut u8, dst_len: usize) -> u32;
     pub fn ff_fill_palette_section(image: *const u8, image_len: usize, has_rhw: u8, lighting_enabled: u8, specular_enable: u8, vertex_blend_indexed: u8, preview: u8, light_active_mask: u8, fog_mode: u8, vertex_blend_count: u8, dst: *mut u8, dst_len: usize) -> u32;
     pub fn ff_fill_tt_section(image: *const u8, image_len: usize, has_rhw: u8, lighting_enabled: u8, specular_enable: u8, vertex_blend_indexed: u8, preview: u8, light_active_mask: u8, fog_mode: u8, vertex_blend_count: u8, dst: *mut u8, dst_len: usize) -> u32;
+    pub fn ff_fill_fog_section(image: *const u8, image_len: usize, has_rhw: u8, lighting_enabled: u8, specular_enable: u8, vertex_blend_indexed: u8, preview: u8, light_active_mask: u8, fog_mode: u8, vertex_blend_count: u8, dst: *mut u8, dst_len: usize) -> u32;
+    pub fn ff_fill_ambient_section(image: *const u8, image_len: usize, has_rhw: u8, lighting_enabled: u8, specular_enable: u8, vertex_blend_indexed: u8, preview: u8, light_active_mask: u8, fog_mode: u8, vertex_blend_count: u8, dst: *mut u8, dst_len: usize) -> u32;
     pub fn ff_refresh(image: *mut u8, image_len: usize, has_rhw: u8, lighting_enabled: u8, specular_enable: u8, vertex_blend_indexed: u8, preview: u8, light_active_mask: u8, fog_mode: u8, vertex_blend_count: u8, mirror: *mut u8, mirror_len: usize, out: *mut u32) -> u32;
 }
 
@@ -135,6 +144,11 @@ unsafe extern "C" {
     pub fn ff_state_set_material(s: *mut FfState, material: *const f32) -> u32;
     pub fn ff_state_set_light_at(s: *mut FfState, index: u32, light: *const FfLight) -> u32;
     pub fn ff_state_set_light_enabled_at(s: *mut FfState, index: u32, enabled: u32) -> u32;
+    pub fn ff_state_set_fog_start(s: *mut FfState, start: f32) -> u32;
+    pub fn ff_state_set_fog_end(s: *mut FfState, end: f32) -> u32;
+    pub fn ff_state_set_fog_density(s: *mut FfState, density: f32) -> u32;
+    pub fn ff_state_set_ambient(s: *mut FfState, color: u32) -> u32;
+    pub fn ff_state_set_texture_mask(s: *mut FfState, mask: u8) -> u32;
     pub fn ff_state_vs_source_light_inputs(s: *const FfState, out: *mut u32) -> u32;
     pub fn ff_state_mark_ff_vs_dirty(s: *mut FfState, bits: u32) -> u32;
     pub fn ff_state_take_ff_vs_dirty(s: *mut FfState, out: *mut u32) -> u32;

@@ -57,7 +57,7 @@ impl Refusal {
             Self::WrongLength => "a slice has the wrong length",
             Self::WrongMask => "the key's light mask is not that of the lights that are packed",
             Self::Singular => "the matrix has no inverse",
-            Self::UnknownBits => "dirty bits above the six",
+            Self::UnknownBits => "dirty bits above the eight",
             Self::HasRhw => "the key is of transformed vertices",
             Self::NoImage => "the bytes are no state image",
         }

@@ -13,7 +13,7 @@ use crate::refusal::Refusal;
 pub const MIRROR_FLOATS: usize = 4 * Mirror::ROWS;
 
 // What crosses by reference lies as the library has it.
-const _: () = assert!(size_of::<raw::FfState>() == 24_212 && align_of::<raw::FfState>() == 4);
+const _: () = assert!(size_of::<raw::FfState>() == 24_232 && align_of::<raw::FfState>() == 4);
 const _: () = assert!(size_of::<Matrix>() == Matrix::BYTES);
 const _: () = assert!(size_of::<Material>() == Material::BYTES);
 const _: () =
@@ -39,7 +39,7 @@ impl fmt::Debug for FfState {
 }
 
 impl FfState {
-    /// Identity matrices, a material of zeros, no light, every section dirty.
+    /// Identity matrices, a material of zeros, no light, fog, ambient colour and texture mask 0, every section dirty.
     #[must_use]
     pub fn fresh() -> Self {
         let mut memory = Box::new(raw::FfState::ZEROS);
@@ -106,6 +106,36 @@ impl FfState {
         Refusal::of(unsafe {
             raw::ff_state_set_light_enabled_at(&mut *self.memory, index, u32::from(enabled))
         })
+    }
+
+    /// Stores where fog begins, and dirties FOG.
+    pub fn set_fog_start(&mut self, start: f32) {
+        // SAFETY: as above.
+        accepted(unsafe { raw::ff_state_set_fog_start(&mut *self.memory, start) });
+    }
+
+    /// Stores where fog ends, and dirties FOG.
+    pub fn set_fog_end(&mut self, end: f32) {
+        // SAFETY: as above.
+        accepted(unsafe { raw::ff_state_set_fog_end(&mut *self.memory, end) });
+    }
+
+    /// Stores how dense fog is, and dirties FOG.
+    pub fn set_fog_density(&mut self, density: f32) {
+        // SAFETY: as above.
+        accepted(unsafe { raw::ff_state_set_fog_density(&mut *self.memory, density) });
+    }
+
+    /// Stores the ambient colour, 0xAARRGGBB, and dirties AMBIENT.
+    pub fn set_ambient(&mut self, color: u32) {
+        // SAFETY: as above.
+        accepted(unsafe { raw::ff_state_set_ambient(&mut *self.memory, color) });
+    }
+
+    /// Stores which texture stages transform, stage 0 the lowest bit, and dirties TT.
+    pub fn set_texture_mask(&mut self, mask: u8) {
+        // SAFETY: as above.
+        accepted(unsafe { raw::ff_state_set_texture_mask(&mut *self.memory, mask) });
     }
 
     /// What of the lights a shader's key depends on, as [`FfImage::vs_source_light_inputs`] has it.

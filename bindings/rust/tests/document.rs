@@ -40,6 +40,8 @@ fn a_fresh_state_reads_as_document_01_says() {
         assert!(!state.is_light_enabled_at(index));
     }
     assert_eq!(state.vs_source_light_inputs(), 0);
+    // Fog's three floats, the ambient colour and the texture mask.
+    assert_eq!(state.as_bytes()[24_204..], [0; 20]);
     assert_eq!(state.take_ff_vs_dirty(), ALL_DIRTY);
     assert_eq!(state.take_ff_vs_dirty(), 0);
 }
@@ -133,9 +135,9 @@ fn each_change_dirties_its_sections() {
     assert_eq!(state.take_ff_vs_dirty(), 8);
     state.set_light_enabled_at(70, false).unwrap();
     assert_eq!(state.take_ff_vs_dirty(), 8);
-    assert_eq!(state.mark_ff_vs_dirty(64), Err(Refusal::UnknownBits));
-    assert_eq!(state.mark_ff_vs_dirty(63), Ok(()));
-    assert_eq!(state.take_ff_vs_dirty(), 63);
+    assert_eq!(state.mark_ff_vs_dirty(256), Err(Refusal::UnknownBits));
+    assert_eq!(state.mark_ff_vs_dirty(255), Ok(()));
+    assert_eq!(state.take_ff_vs_dirty(), 255);
 }
 
 /// Document 02, T-02.
@@ -271,11 +273,10 @@ fn bytes_that_are_no_image_are_refused() {
         FfImage::from_bytes(&[&bytes[..], &[0]].concat()),
         Err(Refusal::NoImage)
     );
-    // Enabled but undefined, dirty above 63, the zero byte, the palette index, the count, an unused
-    // entry, an undefined slot's type, another NaN.
+    // Enabled but undefined, the zero byte, the palette index, the count, an unused entry, an
+    // undefined slot's type, another NaN.
     let damages = [
         (17_924, 1),
-        (17_926, 64),
         (17_927, 1),
         (17_929, 1),
         (17_930, 1),

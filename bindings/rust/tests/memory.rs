@@ -29,7 +29,7 @@ fn written(mirror: &[f32]) -> Vec<usize> {
 #[test]
 fn each_call_dirties_what_it_changes() {
     let mut state = FfState::fresh();
-    assert_eq!(state.take_ff_vs_dirty(), 63);
+    assert_eq!(state.take_ff_vs_dirty(), 255);
     for (number, bits) in [
         (D3DTS_VIEW, 1 | 8 | 16),
         (D3DTS_PROJECTION, 2),
@@ -50,7 +50,7 @@ fn each_call_dirties_what_it_changes() {
             unknown
         );
     }
-    assert_eq!(state.mark_ff_vs_dirty(64), Err(Refusal::UnknownBits));
+    assert_eq!(state.mark_ff_vs_dirty(256), Err(Refusal::UnknownBits));
     assert_eq!(state.take_ff_vs_dirty(), 0);
     state.set_material(&Material::default());
     assert_eq!(state.take_ff_vs_dirty(), 4);
@@ -59,6 +59,17 @@ fn each_call_dirties_what_it_changes() {
     assert_eq!(state.set_light_at(9, &Light::default()), Ok(()));
     assert_eq!(state.mark_ff_vs_dirty(32), Ok(()));
     assert_eq!(state.take_ff_vs_dirty(), 40);
+    // Document 02, T-05; an equal value still dirties.
+    state.set_fog_start(0.0);
+    assert_eq!(state.take_ff_vs_dirty(), 64);
+    state.set_fog_end(0.0);
+    assert_eq!(state.take_ff_vs_dirty(), 64);
+    state.set_fog_density(0.0);
+    assert_eq!(state.take_ff_vs_dirty(), 64);
+    state.set_ambient(0);
+    assert_eq!(state.take_ff_vs_dirty(), 128);
+    state.set_texture_mask(0);
+    assert_eq!(state.take_ff_vs_dirty(), 32);
 }
 
 /// "56 overflow lights": the 57th is refused, and the state is as it was.
@@ -106,8 +117,8 @@ fn a_refresh_writes_the_dirty_sections() {
         ..VsKey::default()
     };
     let mut mirror = foreign();
-    assert_eq!(state.refresh(&key, &mut mirror), Ok(63));
-    let sections = [0..4, 4..8, 10..11, 95..99];
+    assert_eq!(state.refresh(&key, &mut mirror), Ok(255));
+    let sections = [0..4, 4..8, 8..9, 9..10, 10..11, 95..99];
     assert_eq!(
         written(&mirror),
         sections.into_iter().flatten().collect::<Vec<_>>()
@@ -121,6 +132,46 @@ fn a_refresh_writes_the_dirty_sections() {
     // The columns of the matrix.
     assert_eq!(mirror[16..20], [1.0, 0.0, 0.0, 1.0]);
     assert_eq!(mirror[24..28], [0.0, 0.0, 1.0, 3.0]);
+}
+
+/// Document 02, T-05: fog to row 8, ambient to row 9, texture matrices from row 63, and the tail of the image.
+#[test]
+fn fog_ambient_and_textures() {
+    let mut state = FfState::fresh();
+    let key = VsKey {
+        fog_mode: 3,
+        ..VsKey::default()
+    };
+    state.refresh(&key, &mut foreign()).unwrap();
+    state.set_fog_start(2.0);
+    state.set_fog_end(3.0);
+    state.set_fog_density(5.0);
+    let mut mirror = foreign();
+    assert_eq!(state.refresh(&key, &mut mirror), Ok(64));
+    assert_eq!(written(&mirror), [8]);
+    assert_eq!(mirror[32..36], [2.0, 3.0, 5.0, 0.0]);
+    state.set_ambient(0xFF80_4020);
+    let mut mirror = foreign();
+    assert_eq!(state.refresh(&key, &mut mirror), Ok(128));
+    assert_eq!(written(&mirror), [9]);
+    let ambient: Vec<u32> = mirror[36..40].iter().map(|x| x.to_bits()).collect();
+    assert_eq!(
+        ambient,
+        [0x3F00_8081, 0x3E80_8081, 0x3E00_8081, 0x3F80_0000]
+    );
+    state
+        .set_transform(D3DTS_TEXTURE0 + 1, &moved(1.0, 2.0, 3.0))
+        .unwrap();
+    state.set_texture_mask(4);
+    let mut mirror = foreign();
+    assert_eq!(state.refresh(&key, &mut mirror), Ok(32));
+    assert_eq!(written(&mirror), (63..75).collect::<Vec<_>>());
+    // The second stage's bit is clear.
+    assert_eq!(mirror[4 * 67..4 * 68], [1.0, 0.0, 0.0, 1.0]);
+    let tail = [2.0f32.to_bits(), 3.0f32.to_bits(), 5.0f32.to_bits()];
+    let tail = [&tail[..], &[0xFF80_4020, 4]].concat();
+    let bytes: Vec<u8> = tail.into_iter().flat_map(u32::to_le_bytes).collect();
+    assert_eq!(state.to_image().as_bytes()[24_204..], bytes);
 }
 
 /// 4, then 8, then 5; the bits stay, and the mirror too.
@@ -166,8 +217,8 @@ fn a_preview_of_four_lights() {
     let wrong = Err(Refusal::WrongMask);
     assert_eq!(state.refresh(&preview(active), &mut mirror), wrong);
     assert_eq!(mirror, foreign());
-    assert_eq!(state.refresh(&preview(active & 15), &mut mirror), Ok(63));
-    let sections = [0..4, 4..8, 10..11, 15..39];
+    assert_eq!(state.refresh(&preview(active & 15), &mut mirror), Ok(255));
+    let sections = [0..4, 4..8, 8..9, 9..10, 10..11, 15..39];
     assert_eq!(
         written(&mirror),
         sections.into_iter().flatten().collect::<Vec<_>>()
@@ -185,6 +236,11 @@ fn an_image_and_back() {
         ..Light::default()
     };
     image.set_light_at(1000, &spot).unwrap();
+    image.set_fog_start(2.0);
+    image.set_fog_end(3.0);
+    image.set_fog_density(5.0);
+    image.set_ambient(0x1122_3344);
+    image.set_texture_mask(0x85);
     image.take_ff_vs_dirty();
     let mut state = FfState::from_image(&image);
     assert_eq!(state.to_image(), image);

@@ -238,6 +238,7 @@ fn matrices_are_packed_by_columns() {
     assert_eq!(rows.len(), 4 * 40);
     assert_eq!(rows[4 * 39 + 1], [0.0, 1.0, 0.0, 20.0]);
     assert!(state.fill_palette_section(&blended(true, 0)).is_empty());
+    // The texture mask is 0.
     assert!(state.fill_tt_section(&KEY).is_empty());
 }
 

@@ -1,9 +1,10 @@
 //! Document 01's refresh, on the library. The rows expected are its own, or follow from it by whole numbers.
 
 use ff_state::{
-    ALL_DIRTY, D3DTS_PROJECTION, D3DTS_TEXTURE0, D3DTS_VIEW, D3DTS_WORLD, DIRTY_LIGHTS,
-    DIRTY_MATERIAL, DIRTY_PALETTE, DIRTY_PROJ, DIRTY_TT, DIRTY_WV, FfImage, Light, Material,
-    Matrix, Mirror, ROW_LIGHTS, ROW_MATERIAL, ROW_PALETTE, ROW_PROJ, ROW_WV, Refusal, Row, VsKey,
+    ALL_DIRTY, D3DTS_PROJECTION, D3DTS_TEXTURE0, D3DTS_VIEW, D3DTS_WORLD, DIRTY_AMBIENT, DIRTY_FOG,
+    DIRTY_LIGHTS, DIRTY_MATERIAL, DIRTY_PALETTE, DIRTY_PROJ, DIRTY_TT, DIRTY_WV, FfImage, Light,
+    Material, Matrix, Mirror, ROW_AMBIENT, ROW_FOG, ROW_LIGHTS, ROW_MATERIAL, ROW_PALETTE,
+    ROW_PROJ, ROW_TT, ROW_WV, Refusal, Row, VsKey,
 };
 
 /// What the bytes of a mirror are before: 0xA5A5A5A5 is no float that is packed here.
@@ -56,9 +57,10 @@ fn lit() -> (FfImage, VsKey) {
 fn a_mirror_is_1115_rows() {
     assert_eq!((Mirror::ROWS, Mirror::BYTES), (1115, 17_840));
     assert_eq!(
-        [ROW_WV, ROW_PROJ, ROW_MATERIAL, ROW_LIGHTS, ROW_PALETTE],
-        [0, 4, 10, 15, 95]
+        [ROW_WV, ROW_PROJ, ROW_FOG, ROW_AMBIENT, ROW_MATERIAL],
+        [0, 4, 8, 9, 10]
     );
+    assert_eq!([ROW_LIGHTS, ROW_TT, ROW_PALETTE], [15, 63, 95]);
     let bits = [
         DIRTY_WV,
         DIRTY_PROJ,
@@ -66,18 +68,20 @@ fn a_mirror_is_1115_rows() {
         DIRTY_LIGHTS,
         DIRTY_PALETTE,
         DIRTY_TT,
+        DIRTY_FOG,
+        DIRTY_AMBIENT,
         ALL_DIRTY,
     ];
-    assert_eq!(bits, [1, 2, 4, 8, 16, 32, 63]);
+    assert_eq!(bits, [1, 2, 4, 8, 16, 32, 64, 128, 255]);
 }
 
-/// "A fresh state has all six", each from its first row on; the other rows keep their contents.
+/// A fresh state has "all eight bits", each from its first row on; the other rows keep their contents.
 #[test]
 fn the_first_refresh_writes_every_section() {
     let (mut state, key) = lit();
     let mut mirror = foreign();
-    assert_eq!(state.refresh(&key, &mut mirror), Ok(63));
-    let sections = [0..4, 4..8, 10..15, 15..21, 95..99];
+    assert_eq!(state.refresh(&key, &mut mirror), Ok(255));
+    let sections = [0..4, 4..8, 8..9, 9..10, 10..15, 15..21, 95..99];
     assert_eq!(
         written(&mirror),
         sections.into_iter().flatten().collect::<Vec<_>>()
@@ -85,6 +89,7 @@ fn the_first_refresh_writes_every_section() {
     let rows = mirror.rows();
     assert_eq!(rows[0..4], columns(0.0, 0.0, 0.0));
     assert_eq!(rows[4..8], columns(0.0, 0.0, 0.0));
+    assert_eq!(rows[8..10], [[0.0; 4]; 2]);
     assert_eq!(rows[10..15], [[0.0; 4]; 5]);
     // The default light: directional, diffuse 1, 1, 1, direction 0, 0, 1, all else 0.
     let light = [
@@ -116,8 +121,8 @@ fn a_palette_of_255_ends_with_the_mirror() {
         ..VsKey::default()
     };
     let mut mirror = foreign();
-    assert_eq!(state.refresh(&key, &mut mirror), Ok(63));
-    let sections = [0..4, 4..8, 10..11, 95..1115];
+    assert_eq!(state.refresh(&key, &mut mirror), Ok(255));
+    let sections = [0..4, 4..8, 8..9, 9..10, 10..11, 95..1115];
     assert_eq!(
         written(&mirror),
         sections.into_iter().flatten().collect::<Vec<_>>()
@@ -209,7 +214,7 @@ fn a_refused_refresh_changes_nothing() {
         light_active_mask,
         ..key
     };
-    for dirty in [63, 0, 4] {
+    for dirty in [255, 0, 4] {
         state.take_ff_vs_dirty();
         state.mark_ff_vs_dirty(dirty).unwrap();
         let before = state.clone();
@@ -263,8 +268,8 @@ fn a_mirror_that_changes_limit_needs_marking() {
         assert_eq!(refused, Err(Refusal::WrongMask), "mask {mask}");
         assert_eq!(mirror, foreign());
     }
-    assert_eq!(state.refresh(&key(true, 0x0F), &mut mirror), Ok(63));
-    let sections = [0..4, 4..8, 10..11, 15..39];
+    assert_eq!(state.refresh(&key(true, 0x0F), &mut mirror), Ok(255));
+    let sections = [0..4, 4..8, 8..9, 9..10, 10..11, 15..39];
     assert_eq!(
         written(&mirror),
         sections.into_iter().flatten().collect::<Vec<_>>()
@@ -280,11 +285,11 @@ fn a_mirror_that_changes_limit_needs_marking() {
     assert_eq!(state.refresh(&key(false, 0xFF), &mut mirror), Ok(0));
     assert_eq!(mirror, before);
     state.mark_ff_vs_dirty(ALL_DIRTY).unwrap();
-    assert_eq!(state.refresh(&key(false, 0xFF), &mut mirror), Ok(63));
+    assert_eq!(state.refresh(&key(false, 0xFF), &mut mirror), Ok(255));
     let eight = [0.0, 1.0, 2.0, 3.0, 4.0, 5.0, 6.0, 7.0];
     assert_eq!(ranges(&mirror, 8), eight);
     // The preview writes its own rows, and the others keep their contents.
     state.mark_ff_vs_dirty(ALL_DIRTY).unwrap();
-    assert_eq!(state.refresh(&key(true, 0x0F), &mut mirror), Ok(63));
+    assert_eq!(state.refresh(&key(true, 0x0F), &mut mirror), Ok(255));
     assert_eq!(ranges(&mirror, 8), eight);
 }

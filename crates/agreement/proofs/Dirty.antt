@@ -25,6 +25,8 @@ dirty-kept d h v =
       lights-length = v .lights-length;
       overflow-length = v .overflow-length;
       high-water = v .high-water;
+      states = v .states;
+      texture-mask = v .texture-mask;
       dirty = h;
       slots = v .slots;
       overflow = v .overflow;
@@ -33,7 +35,7 @@ dirty-kept d h v =
 
 pub dirtied-valid : {s : FfState} (bits : ℕ) → bits ≤ allBits → Valid s → Valid (dirtied s bits)
 unfolding dirtied
-dirtied-valid {s} bits h v = dirty-kept (bitOr (dirtyWord s) bits) (omega (arith, or-lt 6 (dirtyWord s) bits (omega (arith, v .dirty)) (omega arith))) v
+dirtied-valid {s} bits h v = dirty-kept (bitOr (dirtyWord s) bits) (omega (arith, or-lt 8 (dirtyWord s) bits (omega (arith, v .dirty)) (omega arith))) v
 
 pub taken-valid : {s : FfState} → Valid s → Valid (takeFfVsDirty s .state)
 unfolding takeFfVsDirty
@@ -50,6 +52,8 @@ bits-agree d g =
       material = g .material;
       lights = g .lights;
       highest = g .highest;
+      states = g .states;
+      texture-mask = g .texture-mask;
     }
 
 pub dirtied-agrees : {s : FfState} {a : AbstractState} (bits : ℕ) → Agrees s a → Agrees (dirtied s bits) a

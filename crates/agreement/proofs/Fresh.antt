@@ -3,7 +3,7 @@ use native.Mathlib.Nat.{not-suc-le-zero}
 use native.Mathlib.Omega.{arith}
 use mathlib.Core.Path.{_≡_, refl, sym, subst}
 use lib.ListN.{length-replicate, getD-replicate}
-use Rattle.d3d9_types.proofs.Fits.{defaultLight-fits, identity-fits, defaultMaterial-fits}
+use Rattle.d3d9_types.proofs.Fits.{defaultLight-fits, identity-fits, defaultMaterial-fits, freshStates-fit}
 use Rattle.d3d9_types.specs.Light.{defaultLight, lightFits}
 use Rattle.d3d9_types.specs.Matrix.{identity}
 use Rattle.d3d9_model.specs.State.{freshAbstract}
@@ -67,6 +67,8 @@ fresh-valid =
       lights-length = length-replicate 8 defaultLight;
       overflow-length = length-replicate 56 zeroEntry;
       high-water = omega arith;
+      states = freshStates-fit;
+      texture-mask = omega arith;
       dirty = omega arith;
       slots = fresh-slots;
       overflow = fresh-overflow;
@@ -91,4 +93,6 @@ fresh-agrees =
       material = refl;
       lights = no-lights;
       highest = refl;
+      states = refl;
+      texture-mask = refl;
     }

@@ -4,6 +4,7 @@ pub mod Numbers
 pub mod Transforms
 pub mod TransformReads
 pub mod Material
+pub mod States
 pub mod Indices
 pub mod Defined
 pub mod Entries

@@ -126,7 +126,7 @@ module _ {s : FfState} (v : Valid s) (i : ℕ) (t : FfState) (change : OverflowL
           ∙ ap (λ (x : OverflowLight). set (used s) (found s i .at) (change x)) (sym (entry-used v i h))
           ∙ ap changedUsed (sym h))
           ∙ ap (changedAt i change′ new) (g .lights) in
-          record { matrices = g .matrices; material = g .material; lights = lights; highest = g .highest }
+          record { matrices = g .matrices; material = g .material; lights = lights; highest = g .highest; states = g .states; texture-mask = g .texture-mask }
 
       grown-agrees : 8 ≤ i → found s i .stored ≡ false → usedCount (s .«overflow_count») < 56 → Agrees (withNewEntry s i made) changed
       grown-agrees high h m =
@@ -134,7 +134,7 @@ module _ {s : FfState} (v : Valid s) (i : ℕ) (t : FfState) (change : OverflowL
           overflow-changed high (insertedAt (found s i .at) made (s .«overflow_lights»)) (usedCount (s .«overflow_count») + 1)
           (inserted-is v i made made-own made-fits h high m ∙ ap changedUsed (sym h))
           ∙ ap (changedAt i change′ new) (g .lights) in
-          record { matrices = g .matrices; material = g .material; lights = lights; highest = g .highest }
+          record { matrices = g .matrices; material = g .material; lights = lights; highest = g .highest; states = g .states; texture-mask = g .texture-mask }
 
       call-agrees : Agrees (call s i t change made .state) (cond (eqb (cond (full a i) 3 0) 0) changed a)
       call-agrees =

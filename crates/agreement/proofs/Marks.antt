@@ -22,12 +22,13 @@ use Rattle.light_table.specs.Overflow.{usedCount}
 use Rattle.light_table.specs.declared.entry.OverflowLight.{OverflowLight}
 use Rattle.light_table.specs.declared.overflow.Found.{Found}
 use Rattle.d3d9_model.specs.State.{AbstractState}
-use Rattle.d3d9_model.specs.Operations.{Operation, setTransform, multiplyTransform, setMaterial, setLight, enableLight, mark, abstractRefusal}
+use Rattle.d3d9_model.specs.Operations.{Operation, setTransform, multiplyTransform, setMaterial, setLight, enableLight, setFogStart, setFogEnd, setFogDensity, setAmbient, setTextureMask, mark, abstractRefusal}
 use Rattle.d3d9_model.specs.Marks.{transformMarks, among, marksSection}
 use Rattle.ff_state.specs.State.{freshState, dirtyWord}
 use Rattle.ff_state.specs.Dirty.{dirtied, markFfVsDirty, markNumber, takeFfVsDirty}
 use Rattle.ff_state.specs.Lights.{setLightAt, setLightEnabledAt, changeEntry, replaceEntry, insertEntry, lightsBit, lightNumber}
 use Rattle.ff_state.specs.Material as Materials
+use Rattle.ff_state.specs.RenderStates as States
 use Rattle.ff_state.specs.Slots.{setSlot, defineSlot, enableSlot}
 use Rattle.ff_state.specs.Transforms.{slotOf, InRange, placeSections, placeBits, placed, changeAt, transformNumber}
 use Rattle.ff_state.specs.Transforms as Transforms
@@ -131,6 +132,9 @@ unfolding among hasBit
 one-section τ =
     same-sections _ _ (same-sections (λ τ. map (hasSection (bitOf τ)) sections) (λ τ. map (among (τ ∷ [])) sections) refl τ)
 
+section-marks : (s : FfState) (τ σ : Section) → hasSection (bitOr (dirtyWord s) (bitOf τ)) σ ≡ (hasSection (dirtyWord s) σ || among (τ ∷ []) σ)
+section-marks s τ = added (dirtyWord s) _ (bitOf τ) (among (τ ∷ [])) refl (one-section τ)
+
 light-marks : (s : FfState) (r : LightChanged) → Adds s r → lightNumber (r .answer) ≡ 0 → Marks s (r .state) (among (Sections.Lights ∷ []))
 light-marks s r adds z = added (dirtyWord s) (dirtyWord (r .state)) lightsBit (among (Sections.Lights ∷ [])) (adds z) (one-section Sections.Lights)
 
@@ -141,12 +145,17 @@ unfolding dirtied
 mark-adds s bits = by-mark (λ r. markNumber (r .answer) ≡ 0 → dirtyWord (r .state) ≡ bitOr (dirtyWord s) bits) s bits (λ h e. refl) (λ a n e. absurd (n e))
 
 accepted-marks : (s : FfState) (op : Operation) → operate s op .number ≡ 0 → Marks s (operate s op .state) (marksSection op)
-unfolding operate marksSection Transforms.setTransform Transforms.multiplyTransform Materials.setMaterial dirtied
+unfolding operate marksSection Transforms.setTransform Transforms.multiplyTransform Materials.setMaterial States.setFogStart States.setFogEnd States.setFogDensity States.setAmbient States.setTextureMask dirtied
 accepted-marks s (setTransform n m) z = transform-marks s n _ z
 accepted-marks s (multiplyTransform n m) z = transform-marks s n _ z
-accepted-marks s (setMaterial m) z = added (dirtyWord s) _ (bitOf Sections.Material) (among (Sections.Material ∷ [])) refl (one-section Sections.Material)
+accepted-marks s (setMaterial m) z = section-marks s Sections.Material
 accepted-marks s (setLight i l) z = light-marks s (setLightAt s i l) (set-adds s i l) z
 accepted-marks s (enableLight i on) z = light-marks s (setLightEnabledAt s i on) (enable-adds s i on) z
+accepted-marks s (setFogStart x) z = section-marks s Sections.Fog
+accepted-marks s (setFogEnd x) z = section-marks s Sections.Fog
+accepted-marks s (setFogDensity x) z = section-marks s Sections.Fog
+accepted-marks s (setAmbient c) z = section-marks s Sections.Ambient
+accepted-marks s (setTextureMask t) z = section-marks s Sections.Tt
 accepted-marks s (mark bits) z = added (dirtyWord s) _ bits (hasSection bits) (mark-adds s bits z) (λ σ. refl)
 
 or-false : (b : Bool) → b ≡ (b || false)
@@ -170,8 +179,8 @@ dirty-after {s} v g op σ = dirty-by-number s op σ ∙ ap (λ (n : ℕ). hasSec
 
 -- ---- the fresh word, and taking
 
--- "A fresh state has all six": 63, and no bit above
-pub fresh-dirty : (dirtyWord freshState ≡ 63) × ((σ : Section) → hasSection (dirtyWord freshState) σ ≡ true)
+-- "A fresh state has zeros and all eight bits": 255
+pub fresh-dirty : (dirtyWord freshState ≡ 255) × ((σ : Section) → hasSection (dirtyWord freshState) σ ≡ true)
 unfolding freshState hasBit
 fresh-dirty = (refl, same-sections _ (λ σ. true) refl)
 

@@ -25,6 +25,8 @@ module _ {s : FfState} (m : D3DMATERIAL9) where
         lights-length = v .lights-length;
         overflow-length = v .overflow-length;
         high-water = v .high-water;
+        states = v .states;
+        texture-mask = v .texture-mask;
         dirty = v .dirty;
         slots = v .slots;
         overflow = v .overflow;
@@ -44,4 +46,4 @@ module _ {s : FfState} (m : D3DMATERIAL9) where
   unfolding setMaterial stateLights abstractStep abstractRefusal abstractChange
   material-agrees g =
       dirtied-agrees (bitOf Sections.Material)
-      (record { matrices = g .matrices; material = refl; lights = g .lights; highest = g .highest })
+      (record { matrices = g .matrices; material = refl; lights = g .lights; highest = g .highest; states = g .states; texture-mask = g .texture-mask })

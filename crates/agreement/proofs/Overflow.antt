@@ -47,6 +47,8 @@ module _ {s : FfState} (v : Valid s) where
         lights-length = v .lights-length;
         overflow-length = long;
         high-water = v .high-water;
+        states = v .states;
+        texture-mask = v .texture-mask;
         dirty = v .dirty;
         slots = v .slots;
         overflow = h;

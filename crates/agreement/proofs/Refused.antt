@@ -4,7 +4,7 @@ use Prim.Native.Nat.{ℕ}
 use mathlib.Core.Path.{_≡_, refl, ap, _∙_}
 use mathlib.Core.Bool.{Bool, true, false, cond}
 use Rattle.d3d9_types.specs.declared.matrix.D3DMATRIX.{D3DMATRIX}
-use Rattle.d3d9_model.specs.Operations.{Operation, setTransform, multiplyTransform, setMaterial, setLight, enableLight, mark}
+use Rattle.d3d9_model.specs.Operations.{Operation, setTransform, multiplyTransform, setMaterial, setLight, enableLight, setFogStart, setFogEnd, setFogDensity, setAmbient, setTextureMask, mark}
 use Rattle.ff_state.specs.Dirty.{markFfVsDirty, markNumber}
 use Rattle.ff_state.specs.Lights.{hasRoom, setLightAt, setLightEnabledAt, lightNumber}
 use Rattle.ff_state.specs.Transforms as Transforms
@@ -44,4 +44,9 @@ refused-same s (multiplyTransform n m) h = transform-same s (Transforms.slotOf n
 refused-same s (setMaterial m) h = absurd (h refl)
 refused-same s (setLight i l) h = light-same s i (setLightAt s i l) (set-answer s i l) (set-refused s i l) h
 refused-same s (enableLight i on) h = light-same s i (setLightEnabledAt s i on) (enable-answer s i on) (enable-refused s i on) h
+refused-same s (setFogStart x) h = absurd (h refl)
+refused-same s (setFogEnd x) h = absurd (h refl)
+refused-same s (setFogDensity x) h = absurd (h refl)
+refused-same s (setAmbient c) h = absurd (h refl)
+refused-same s (setTextureMask t) h = absurd (h refl)
 refused-same s (mark bits) h = mark-same s bits h

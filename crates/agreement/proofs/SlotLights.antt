@@ -105,12 +105,12 @@ module _ {s : FfState} (v : Valid s) (i : ℕ) (low : i < 8) where
   module _ {a : AbstractState} (g : Agrees s a) where
     pub set-slot-agrees : (l : D3DLIGHT9) → Agrees (setSlot s i l) (replacedLights a (lightSet i l (a .lights)))
     unfolding setSlot
-    set-slot-agrees l = record { matrices = g .matrices; material = g .material; lights = set-slot-lights l ∙ ap (lightSet i l) (g .lights); highest = g .highest }
+    set-slot-agrees l = record { matrices = g .matrices; material = g .material; lights = set-slot-lights l ∙ ap (lightSet i l) (g .lights); highest = g .highest; states = g .states; texture-mask = g .texture-mask }
 
     pub enable-slot-agrees : (on : Bool) → Agrees (enableSlot s i on) (replacedLights a (lightEnabled i on (a .lights)))
     unfolding enableSlot defineSlot setSlot
     enable-slot-agrees on =
         branch (λ (t : FfState). Agrees (withLightEnabled t (withBit (t .«light_enabled») i on)) (replacedLights a (lightEnabled i on (a .lights))))
         (hasBit (s .«light_defined_mask») i) s (setSlot s i defaultLight)
-        (λ e. record { matrices = g .matrices; material = g .material; lights = defined-lights on e ∙ ap (lightEnabled i on) (g .lights); highest = g .highest })
-        (λ e. record { matrices = g .matrices; material = g .material; lights = undefined-lights on e ∙ ap (lightEnabled i on) (g .lights); highest = g .highest })
+        (λ e. record { matrices = g .matrices; material = g .material; lights = defined-lights on e ∙ ap (lightEnabled i on) (g .lights); highest = g .highest; states = g .states; texture-mask = g .texture-mask })
+        (λ e. record { matrices = g .matrices; material = g .material; lights = undefined-lights on e ∙ ap (lightEnabled i on) (g .lights); highest = g .highest; states = g .states; texture-mask = g .texture-mask })

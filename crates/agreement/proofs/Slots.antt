@@ -59,6 +59,8 @@ module _ {s : FfState} (v : Valid s) where
         lights-length = long;
         overflow-length = v .overflow-length;
         high-water = v .high-water;
+        states = v .states;
+        texture-mask = v .texture-mask;
         dirty = v .dirty;
         slots = h;
         overflow = v .overflow;

@@ -44,6 +44,8 @@ module _ {s : FfState} (v : Valid s) where
         lights-length = v .lights-length;
         overflow-length = v .overflow-length;
         high-water = lh;
+        states = v .states;
+        texture-mask = v .texture-mask;
         dirty = v .dirty;
         slots = v .slots;
         overflow = v .overflow;
@@ -120,6 +122,8 @@ module _ {s : FfState} {a : AbstractState} (v : Valid s) (g : Agrees s a) (m : D
         material = g .material;
         lights = g .lights;
         highest = unraised n (omega arith);
+        states = g .states;
+        texture-mask = g .texture-mask;
       }
   placed-agrees Projection n e h =
       record {
@@ -133,6 +137,8 @@ module _ {s : FfState} {a : AbstractState} (v : Valid s) (g : Agrees s a) (m : D
         material = g .material;
         lights = g .lights;
         highest = unraised n (omega arith);
+        states = g .states;
+        texture-mask = g .texture-mask;
       }
   placed-agrees (Texture i) n e h =
       record {
@@ -146,6 +152,8 @@ module _ {s : FfState} {a : AbstractState} (v : Valid s) (g : Agrees s a) (m : D
         material = g .material;
         lights = g .lights;
         highest = unraised n (omega arith);
+        states = g .states;
+        texture-mask = g .texture-mask;
       }
   placed-agrees (Palette i) n e h =
       record {
@@ -159,6 +167,8 @@ module _ {s : FfState} {a : AbstractState} (v : Valid s) (g : Agrees s a) (m : D
         material = g .material;
         lights = g .lights;
         highest = raised-to i n e h;
+        states = g .states;
+        texture-mask = g .texture-mask;
       }
 
 -- ---- the calls: a change of the matrix that a number names

@@ -45,3 +45,5 @@ pub record Agrees (s : FfState) (a : AbstractState) : Type 0 where
   pub material : s .material ≡ a .material
   pub lights : stateLights s ≡ a .lights
   pub highest : s .«world_palette_high_water» ≡ a .highestIndex
+  pub states : s .«render_states» ≡ a .renderStates
+  pub texture-mask : s .«tt_active_mask» ≡ a .textureMask

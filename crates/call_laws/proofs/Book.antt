@@ -16,10 +16,12 @@ use Rattle.ff_state.specs.declared.state.FfState.{FfState}
 use Rattle.ff_state.specs.declared.transforms.Place.{Place}
 use Rattle.ff_state.specs.declared.transforms.Place.the-variants.{View, Projection, Texture, Palette}
 use Rattle.d3d9_types.specs.Matrix.{identity}
+use Rattle.d3d9_types.specs.RenderStates.{withFogStart, withFogEnd, withFogDensity, withAmbient}
 use Rattle.d3d9_types.specs.declared.matrix.D3DMATRIX.{D3DMATRIX}
+use Rattle.d3d9_types.specs.declared.render_states.RenderStates.{RenderStates}
 use Rattle.matrix.specs.Product.{matMul}
-use Rattle.d3d9_model.specs.Operations.{Operation, setTransform, multiplyTransform, setMaterial, setLight, enableLight, mark, known, full, abstractRefusal, abstractChange, abstractStep}
-use Rattle.d3d9_model.specs.State.{AbstractState, AbstractLight, freshAbstract, raised, replacedMatrix}
+use Rattle.d3d9_model.specs.Operations.{Operation, setTransform, multiplyTransform, setMaterial, setLight, enableLight, setFogStart, setFogEnd, setFogDensity, setAmbient, setTextureMask, mark, known, full, abstractRefusal, abstractChange, abstractStep}
+use Rattle.d3d9_model.specs.State.{AbstractState, AbstractLight, freshAbstract, raised, replacedMatrix, replacedLights, replacedStates}
 use Rattle.d3d9_model.specs.Lights.{lookup, isThere, countBeyond, activeOf, lightSet, lightEnabled, abstractLight, abstractActive}
 use Rattle.d3d9_model.specs.Reads.{abstractReadMatrix, abstractPaletteUsed}
 use Rattle.agreement.specs.Agrees.{Agrees}
@@ -48,7 +50,7 @@ module _ {s : FfState} {a b : AbstractState} (f : Agrees s a) (g : Agrees s b) w
   at-number n h (no-place q k) = never (sym h ∙ k)
 
   same-book : SameBook a b
-  same-book = record { matrix = λ n h. at-number n h (named n); material = sym (f .material) ∙ g .material; lights = sym (f .lights) ∙ g .lights; highest = sym (f .highest) ∙ g .highest }
+  same-book = record { matrix = λ n h. at-number n h (named n); material = sym (f .material) ∙ g .material; lights = sym (f .lights) ∙ g .lights; highest = sym (f .highest) ∙ g .highest; states = sym (f .states) ∙ g .states; texture-mask = sym (f .texture-mask) ∙ g .texture-mask }
 
 -- ---- no refusal, read or later operation tells two states of one book apart: so the record leaves out nothing that they have
 
@@ -64,6 +66,11 @@ module _ {a b : AbstractState} (e : SameBook a b) where
   same-refusal (setMaterial m) = refl
   same-refusal (setLight i l) = ap (λ (f : Bool). cond f 3 0) (same-full i)
   same-refusal (enableLight i on) = ap (λ (f : Bool). cond f 3 0) (same-full i)
+  same-refusal (setFogStart x) = refl
+  same-refusal (setFogEnd x) = refl
+  same-refusal (setFogDensity x) = refl
+  same-refusal (setAmbient c) = refl
+  same-refusal (setTextureMask t) = refl
   same-refusal (mark bits) = refl
 
   pub same-matrix : (n : ℕ) → abstractReadMatrix a n ≡ abstractReadMatrix b n
@@ -93,7 +100,15 @@ module _ {a b : AbstractState} (e : SameBook a b) where
         material = e .material;
         lights = e .lights;
         highest = ap (λ (i : ℕ). raised i n) (e .highest);
+        states = e .states;
+        texture-mask = e .texture-mask;
       }
+
+  with-lights : {ls ls′ : List AbstractLight} → ls ≡ ls′ → SameBook (replacedLights a ls) (replacedLights b ls′)
+  with-lights q = record { matrix = e .matrix; material = e .material; lights = q; highest = e .highest; states = e .states; texture-mask = e .texture-mask }
+
+  with-states : {r r′ : RenderStates} → r ≡ r′ → SameBook (replacedStates a r) (replacedStates b r′)
+  with-states q = record { matrix = e .matrix; material = e .material; lights = e .lights; highest = e .highest; states = q; texture-mask = e .texture-mask }
 
   taken : (t : Bool) (n : ℕ) → n ≡ cond t 0 1 → n ≡ 0 → t ≡ true
   taken true n q z = refl
@@ -103,9 +118,14 @@ module _ {a b : AbstractState} (e : SameBook a b) where
   unfolding abstractChange abstractRefusal
   changed (setTransform n m) z = stored n m m refl
   changed (multiplyTransform n m) z = stored n _ _ (ap (matMul m) (e .matrix n (taken (known n) _ refl z)))
-  changed (setMaterial m) z = record { matrix = e .matrix; material = refl; lights = e .lights; highest = e .highest }
-  changed (setLight i l) z = record { matrix = e .matrix; material = e .material; lights = ap (lightSet i l) (e .lights); highest = e .highest }
-  changed (enableLight i on) z = record { matrix = e .matrix; material = e .material; lights = ap (lightEnabled i on) (e .lights); highest = e .highest }
+  changed (setMaterial m) z = record { matrix = e .matrix; material = refl; lights = e .lights; highest = e .highest; states = e .states; texture-mask = e .texture-mask }
+  changed (setLight i l) z = with-lights (ap (lightSet i l) (e .lights))
+  changed (enableLight i on) z = with-lights (ap (lightEnabled i on) (e .lights))
+  changed (setFogStart x) z = with-states (ap (λ (r : RenderStates). withFogStart r x) (e .states))
+  changed (setFogEnd x) z = with-states (ap (λ (r : RenderStates). withFogEnd r x) (e .states))
+  changed (setFogDensity x) z = with-states (ap (λ (r : RenderStates). withFogDensity r x) (e .states))
+  changed (setAmbient c) z = with-states (ap (λ (r : RenderStates). withAmbient r c) (e .states))
+  changed (setTextureMask t) z = record { matrix = e .matrix; material = e .material; lights = e .lights; highest = e .highest; states = e .states; texture-mask = refl }
   changed (mark bits) z = e
 
   pub same-step : (op : Operation) → SameBook (abstractStep a op) (abstractStep b op)

@@ -8,6 +8,8 @@ use mathlib.Core.Bool.{Bool, true, false, cond}
 use mathlib.Core.List.{List}
 use mathlib.Core.Option.{none, some}
 use lib.Dec.{eqb}
+use lib.Ieee.{binary32}
+use lib.Ieee.Bits.{ofBits-fits}
 use borrow.Author.Tests.{ne-eqb}
 use Rattle.lemmas.proofs.Options.{some-is, not-some}
 use Rattle.codec.specs.Little.{Bytes}
@@ -17,7 +19,7 @@ use Rattle.codec.proofs.Laws.Light.{lightAt-fits}
 use Rattle.ff_state.specs.Operate.{Operated, operate, OperationFits}
 use Rattle.ff_state.specs.Valid.{Valid}
 use Rattle.ff_state.specs.declared.state.FfState.{FfState}
-use Rattle.d3d9_model.specs.Operations.{Operation, setTransform, multiplyTransform, setMaterial, setLight, enableLight, mark, abstractStep}
+use Rattle.d3d9_model.specs.Operations.{Operation, setTransform, multiplyTransform, setMaterial, setLight, enableLight, setFogStart, setFogEnd, setFogDensity, setAmbient, setTextureMask, mark, abstractStep}
 use Rattle.agreement.specs.Agrees.{Agrees}
 use Rattle.agreement.proofs.Kept.{valid-kept, agrees-kept, refused-alike}
 use Rattle.agreement.proofs.Refused.{refused-same}
@@ -65,6 +67,11 @@ said-fits (multiplyTransform n m) b = matrixAt-fits m 0
 said-fits (setMaterial m) b = materialAt-fits m 0
 said-fits (setLight i l) b = (b .0, lightAt-fits l 0 (b .1))
 said-fits (enableLight i on) b = b
+said-fits (setFogStart bits) b = ofBits-fits binary32 bits
+said-fits (setFogEnd bits) b = ofBits-fits binary32 bits
+said-fits (setFogDensity bits) b = ofBits-fits binary32 bits
+said-fits (setAmbient color) b = b
+said-fits (setTextureMask mask) b = b
 said-fits (mark bits) b = tt
 
 pub operation-fits : (h : HostOperation) (op : Operation) → operationOf h ≡ some op → ItemFits h → OperationFits op
@@ -81,6 +88,11 @@ answer-is (multiplyTransform n m) image = refl
 answer-is (setMaterial m) image = refl
 answer-is (setLight i l) image = refl
 answer-is (enableLight i on) image = refl
+answer-is (setFogStart bits) image = refl
+answer-is (setFogEnd bits) image = refl
+answer-is (setFogDensity bits) image = refl
+answer-is (setAmbient color) image = refl
+answer-is (setTextureMask mask) image = refl
 answer-is (mark bits) image = refl
 
 next-is : (n next : ℕ) → orNext n next ≡ cond (eqb n 0) next n

@@ -2,7 +2,7 @@
 -- Assumes nothing.
 use Prim.Native.Nat.{ℕ, zero, suc, _≤_}
 use native.Mathlib.Omega.{arith}
-use mathlib.Core.Path.{_≡_, refl, sym, ap, _∙_}
+use mathlib.Core.Path.{_≡_, refl, sym, ap, ap₂, _∙_}
 use mathlib.Core.Bool.{Bool, true, false}
 use mathlib.Core.List.{List}
 use lib.ListN.{length}
@@ -18,7 +18,7 @@ use Rattle.image.specs.Write.{WriteOutcome, writeOutcome, writeImage, writeNumb
 use Rattle.image.specs.declared.write.WriteAnswer.{WriteAnswer}
 use Rattle.image.specs.declared.write.WriteAnswer.the-variants.{Written}
 use Rattle.calls.specs.Answer.{answer, orNext}
-use Rattle.calls.specs.Call.{Called, callCode, changing, reading}
+use Rattle.calls.specs.Call.{Called, called, callCode, changing, reading}
 use Rattle.calls.specs.Images.{writeAnswer, ffImageFresh}
 use Rattle.calls.proofs.Answers.{answered-code, next-rest}
 use Rattle.calls.proofs.Answers as Answers
@@ -110,6 +110,12 @@ module _ (call : FfState → Called) (len : ℕ) (image : List ℕ) where
     pub changing-done : {last : List ℕ} → call (stateOf image) .number ≡ 0 → len ≡ 0 → last ≡ imageBytes (call (stateOf image) .state) → answer 0 last ≡ changing call len image
     unfolding changing
     changing-done e l q = Answers.accepted _ image (code-length (λ s. call s .number) len image h e ∙ l) q
+
+-- the last return of a setter that never refuses: the state is read, set to the value, and written back
+module _ {A : Type 0} (set : FfState → A → FfState) (v : A) (image : List ℕ) (h : refused image ≡ false) where
+  pub setting-done : {s t : FfState} {x : A} {last : List ℕ} → s ≡ stateOf image → x ≡ v → t ≡ set s x → last ≡ imageBytes t
+      → answer 0 last ≡ changing (λ s. called 0 (set s v)) 0 image
+  setting-done read given is wrote = changing-done _ 0 image h refl refl (wrote ∙ ap imageBytes (is ∙ ap₂ set read given))
 
 -- the returns of a call that reads the state
 module _ {A : Type 0} (own : FfState → ℕ) (value : FfState → A) (len : ℕ) (image : List ℕ) (out : A) where

@@ -1,4 +1,2 @@
 pub mod Answers
 pub mod Calls
-pub mod Numbers
-pub mod Changes

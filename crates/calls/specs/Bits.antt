@@ -1,4 +1,4 @@
--- The calls on dirty bits of docs/INTERFACE.md: 9, then 7 for a mark above 63.
+-- The calls on dirty bits of docs/INTERFACE.md: 9, then 7 for a mark above 255.
 use Prim.Native.Nat.{ℕ}
 use mathlib.Core.List.{List}
 use Rattle.ff_state.specs.Dirty.{markFfVsDirty, takeFfVsDirty, markNumber}

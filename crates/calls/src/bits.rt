@@ -1,4 +1,4 @@
-// Calls on the dirty bits. A mark above 63 is refused 7.
+// Calls on the dirty bits. A mark above 255 is refused 7.
 ghost use mathlib.Core.Path.{_≡_};
 ghost use Rattle.calls.specs.Answer.{answer};
 ghost use Rattle.calls.specs.Bits.{imageAndNumber, ffMarkFfVsDirty, ffTakeFfVsDirty};

@@ -2,7 +2,7 @@
 mod bits;
 mod images;
 mod materials;
-mod transforms;
+mod render_states;
 
 pub use bits::mark_ff_vs_dirty;
 pub use bits::take_ff_vs_dirty;
@@ -11,8 +11,8 @@ pub use images::image_fresh;
 pub use images::put_state;
 pub use materials::material;
 pub use materials::set_material;
-pub use transforms::multiply_transform;
-pub use transforms::set_transform;
-pub use transforms::transform;
-pub use transforms::world_palette_used;
-pub use transforms::world_view_projection;
+pub use render_states::set_ambient;
+pub use render_states::set_fog_density;
+pub use render_states::set_fog_end;
+pub use render_states::set_fog_start;
+pub use render_states::set_texture_mask;

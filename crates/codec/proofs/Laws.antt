@@ -5,3 +5,4 @@ pub mod Color
 pub mod Vector
 pub mod Material
 pub mod Light
+pub mod RenderStates

@@ -6,3 +6,4 @@ pub mod Color
 pub mod Vector
 pub mod Material
 pub mod Light
+pub mod RenderStates

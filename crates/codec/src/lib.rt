@@ -5,6 +5,7 @@ mod light;
 mod little;
 mod material;
 mod matrix;
+mod render_states;
 mod vector;
 
 pub use float::put_f32;
@@ -20,3 +21,5 @@ pub use material::material_at;
 pub use material::put_material;
 pub use matrix::matrix_at;
 pub use matrix::put_matrix;
+pub use render_states::put_states;
+pub use render_states::states_at;

@@ -3,6 +3,8 @@ use Prim.Native.Nat.{ℕ, zero, suc}
 use mathlib.Core.Path.{_≡_, refl}
 use mathlib.Core.Bool.{Bool, true, false, cond}
 use mathlib.Core.List.{List, [], _∷_, map}
+use lib.Ieee.{Float}
+use lib.ListN.{replicate}
 use Rattle.d3d9_types.specs.Light.{defaultLight}
 use Rattle.d3d9_types.specs.Matrix.{identity}
 use Rattle.d3d9_types.specs.declared.matrix.D3DMATRIX.{D3DMATRIX}
@@ -13,7 +15,7 @@ use Rattle.sections.specs.Sections.{sections}
 use Rattle.words.specs.Bits.{hasBit}
 use Rattle.d3d9_model.specs.State.{AbstractState, AbstractLight, freshAbstract, raised, replacedLights}
 use Rattle.d3d9_model.specs.Lights.{indexedLight, lookup, isThere, isOn, changedAt, lightSet, lightEnabled, countBeyond, lights?, activeOf, abstractLight, abstractActive}
-use Rattle.d3d9_model.specs.Operations.{Operation, setTransform, multiplyTransform, setMaterial, setLight, enableLight, mark, known, full, abstractRefusal, abstractChange, abstractStep}
+use Rattle.d3d9_model.specs.Operations.{Operation, setTransform, multiplyTransform, setMaterial, setLight, enableLight, setFogStart, setFogEnd, setFogDensity, setAmbient, setTextureMask, mark, known, full, abstractRefusal, abstractChange, abstractStep}
 use Rattle.d3d9_model.specs.Marks.{transformMarks, among, marksSection}
 use Rattle.d3d9_model.specs.Active.{compacted, bitsNumber, compactedMask, activeKind, rawMask, wordOf, abstractLightInputs}
 use Rattle.d3d9_model.specs.Reads.{transformReadRefusal, lightReadRefusal, abstractPaletteUsed}
@@ -51,7 +53,7 @@ material-set : (a : AbstractState) (m : D3DMATERIAL9) → abstractStep a (setMat
 unfolding abstractStep abstractRefusal abstractChange
 material-set a m = refl
 
-marks : (a : AbstractState) → map (λ n. abstractRefusal a (mark n)) (0 ∷ 63 ∷ 64 ∷ []) ≡ 0 ∷ 0 ∷ 7 ∷ []
+marks : (a : AbstractState) → map (λ n. abstractRefusal a (mark n)) (0 ∷ 63 ∷ 64 ∷ 255 ∷ 256 ∷ []) ≡ 0 ∷ 0 ∷ 0 ∷ 0 ∷ 7 ∷ []
 unfolding abstractRefusal
 marks a = refl
 
@@ -138,7 +140,7 @@ read-numbers : (map (lightReadRefusal five) (0 ∷ 1 ∷ 2 ∷ 9 ∷ []) ≡ 0 �
 unfolding lightReadRefusal abstractLight lookup isThere transformReadRefusal known
 read-numbers = (refl, refl)
 
--- ---- the sections that an operation marks: WV, PROJ, MATERIAL, LIGHTS, PALETTE, TT, a 1 for each that is marked
+-- ---- the sections that an operation marks: WV, PROJ, MATERIAL, LIGHTS, PALETTE, TT, FOG, AMBIENT, a 1 for each that is marked
 
 abbrev marksOf : Operation → List ℕ
 marksOf op = map (λ σ. cond (marksSection op σ) 1 0) sections
@@ -148,13 +150,13 @@ numbered = 2 ∷ 3 ∷ 16 ∷ 23 ∷ 256 ∷ 257 ∷ 511 ∷ []
 
 abbrev marked : List (List ℕ)
 marked =
-    (1 ∷ 0 ∷ 0 ∷ 1 ∷ 1 ∷ 0 ∷ [])
-    ∷ (0 ∷ 1 ∷ 0 ∷ 0 ∷ 0 ∷ 0 ∷ [])
-    ∷ (0 ∷ 0 ∷ 0 ∷ 0 ∷ 0 ∷ 1 ∷ [])
-    ∷ (0 ∷ 0 ∷ 0 ∷ 0 ∷ 0 ∷ 1 ∷ [])
-    ∷ (1 ∷ 0 ∷ 0 ∷ 0 ∷ 1 ∷ 0 ∷ [])
-    ∷ (0 ∷ 0 ∷ 0 ∷ 0 ∷ 1 ∷ 0 ∷ [])
-    ∷ (0 ∷ 0 ∷ 0 ∷ 0 ∷ 1 ∷ 0 ∷ [])
+    (1 ∷ 0 ∷ 0 ∷ 1 ∷ 1 ∷ 0 ∷ 0 ∷ 0 ∷ [])
+    ∷ (0 ∷ 1 ∷ 0 ∷ 0 ∷ 0 ∷ 0 ∷ 0 ∷ 0 ∷ [])
+    ∷ (0 ∷ 0 ∷ 0 ∷ 0 ∷ 0 ∷ 1 ∷ 0 ∷ 0 ∷ [])
+    ∷ (0 ∷ 0 ∷ 0 ∷ 0 ∷ 0 ∷ 1 ∷ 0 ∷ 0 ∷ [])
+    ∷ (1 ∷ 0 ∷ 0 ∷ 0 ∷ 1 ∷ 0 ∷ 0 ∷ 0 ∷ [])
+    ∷ (0 ∷ 0 ∷ 0 ∷ 0 ∷ 1 ∷ 0 ∷ 0 ∷ 0 ∷ [])
+    ∷ (0 ∷ 0 ∷ 0 ∷ 0 ∷ 1 ∷ 0 ∷ 0 ∷ 0 ∷ [])
     ∷ []
 
 transform-marks : (m : D3DMATRIX) → (map (λ n. marksOf (setTransform n m)) numbered ≡ marked) × (map (λ n. marksOf (multiplyTransform n m)) numbered ≡ marked)
@@ -162,12 +164,28 @@ unfolding marksSection transformMarks among
 transform-marks m = (refl, refl)
 
 other-marks : (m : D3DMATERIAL9) (l : D3DLIGHT9)
-    → (marksOf (setMaterial m) ≡ 0 ∷ 0 ∷ 1 ∷ 0 ∷ 0 ∷ 0 ∷ [])
-    × (marksOf (setLight 9 l) ≡ 0 ∷ 0 ∷ 0 ∷ 1 ∷ 0 ∷ 0 ∷ [])
-    × (marksOf (enableLight 3 true) ≡ 0 ∷ 0 ∷ 0 ∷ 1 ∷ 0 ∷ 0 ∷ [])
-    × (marksOf (mark 38) ≡ 0 ∷ 1 ∷ 1 ∷ 0 ∷ 0 ∷ 1 ∷ [])
+    → (marksOf (setMaterial m) ≡ 0 ∷ 0 ∷ 1 ∷ 0 ∷ 0 ∷ 0 ∷ 0 ∷ 0 ∷ [])
+    × (marksOf (setLight 9 l) ≡ 0 ∷ 0 ∷ 0 ∷ 1 ∷ 0 ∷ 0 ∷ 0 ∷ 0 ∷ [])
+    × (marksOf (enableLight 3 true) ≡ 0 ∷ 0 ∷ 0 ∷ 1 ∷ 0 ∷ 0 ∷ 0 ∷ 0 ∷ [])
+    × (marksOf (mark 38) ≡ 0 ∷ 1 ∷ 1 ∷ 0 ∷ 0 ∷ 1 ∷ 0 ∷ 0 ∷ [])
 unfolding marksSection among hasBit
 other-marks m l = (refl, refl, refl, refl)
+
+-- document 02, T-05
+state-marks : (x : Float)
+    → (map marksOf (setFogStart x ∷ setFogEnd x ∷ setFogDensity x ∷ []) ≡ replicate 3 (0 ∷ 0 ∷ 0 ∷ 0 ∷ 0 ∷ 0 ∷ 1 ∷ 0 ∷ []))
+    × (marksOf (setAmbient 7) ≡ 0 ∷ 0 ∷ 0 ∷ 0 ∷ 0 ∷ 0 ∷ 0 ∷ 1 ∷ [])
+    × (marksOf (setTextureMask 5) ≡ 0 ∷ 0 ∷ 0 ∷ 0 ∷ 0 ∷ 1 ∷ 0 ∷ 0 ∷ [])
+    × (marksOf (mark 192) ≡ 0 ∷ 0 ∷ 0 ∷ 0 ∷ 0 ∷ 0 ∷ 1 ∷ 1 ∷ [])
+unfolding marksSection among hasBit
+state-marks x = (refl, refl, refl, refl)
+
+-- each in its own field
+states-set : (x y z : Float)
+    → (after (setFogStart x ∷ setAmbient 7 ∷ setFogEnd y ∷ setTextureMask 5 ∷ setFogDensity z ∷ []) freshAbstract .renderStates ≡ record { «fog_start» = x; «fog_end» = y; «fog_density» = z; ambient = 7 })
+    × (after (setTextureMask 5 ∷ setAmbient 7 ∷ mark 255 ∷ []) freshAbstract .textureMask ≡ 5)
+unfolding abstractStep abstractRefusal abstractChange
+states-set x y z = (refl, refl)
 
 -- ---- "the highest palette index ever set or multiplied, plus 1, and 1 when fresh"
 

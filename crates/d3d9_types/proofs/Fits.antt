@@ -7,6 +7,7 @@ use Rattle.d3d9_types.specs.Color.{black, colorFits, colorRow, rowColor}
 use Rattle.d3d9_types.specs.Matrix.{rowFits, matrixFits, identity}
 use Rattle.d3d9_types.specs.Material.{materialFits, defaultMaterial}
 use Rattle.d3d9_types.specs.Light.{lightFits, defaultLight}
+use Rattle.d3d9_types.specs.RenderStates.{freshStates, statesFit}
 use Rattle.d3d9_types.specs.declared.matrix.Row.{Row}
 use Rattle.d3d9_types.specs.declared.color.D3DCOLORVALUE.{D3DCOLORVALUE}
 
@@ -60,3 +61,6 @@ defaultLight-fits =
       theta = zero-fits;
       phi = zero-fits;
     }
+
+pub freshStates-fit : statesFit freshStates
+freshStates-fit = record { fog-start = zero-fits; fog-end = zero-fits; fog-density = zero-fits; ambient = lit< tt }

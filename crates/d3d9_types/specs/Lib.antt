@@ -4,3 +4,4 @@ pub mod Vector
 pub mod Color
 pub mod Material
 pub mod Light
+pub mod RenderStates

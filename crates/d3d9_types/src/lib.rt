@@ -3,6 +3,7 @@ mod color;
 mod light;
 mod material;
 mod matrix;
+mod render_states;
 mod transform;
 mod vector;
 
@@ -20,6 +21,7 @@ pub use matrix::D3DMATRIX;
 pub use matrix::IDENTITY;
 pub use matrix::Row;
 pub use matrix::identity;
+pub use render_states::RenderStates;
 pub use transform::D3DTS_PROJECTION;
 pub use transform::D3DTS_TEXTURE0;
 pub use transform::D3DTS_TEXTURE7;

@@ -19,13 +19,14 @@ use Rattle.d3d9_types.specs.declared.matrix.Row.{Row}
 use Rattle.d3d9_types.specs.declared.matrix.D3DMATRIX.{D3DMATRIX}
 use Rattle.d3d9_types.specs.declared.material.D3DMATERIAL9.{D3DMATERIAL9}
 use Rattle.d3d9_types.specs.declared.light.D3DLIGHT9.{D3DLIGHT9}
-use Rattle.d3d9_model.specs.Operations.{Operation, setTransform, multiplyTransform, setMaterial, setLight, enableLight, mark}
+use Rattle.d3d9_model.specs.Operations.{Operation, setTransform, multiplyTransform, setMaterial, setLight, enableLight, setFogStart, setFogEnd, setFogDensity, setAmbient, setTextureMask, mark}
 use Rattle.ff_state.specs.declared.state.FfState.{FfState}
 use Rattle.ff_state.specs.State.{freshState, dirtyWord}
 use Rattle.ff_state.specs.Dirty.{dirtied, markFfVsDirty, takeFfVsDirty}
 use Rattle.ff_state.specs.Transforms.{slotOf, placeSections, placeMatrix, placed, changeAt, transformNumber, worldPaletteUsed}
 use Rattle.ff_state.specs.Transforms as Transforms
 use Rattle.ff_state.specs.Material as Materials
+use Rattle.ff_state.specs.RenderStates as States
 use Rattle.ff_state.specs.Operate.{operate}
 use Rattle.ff_state.specs.Slots.{setSlot, defineSlot, enableSlot}
 use Rattle.ff_state.specs.Lights.{found, replaceEntry, insertEntry, changeEntry, setLightAt, flag, setLightEnabledAt}
@@ -83,13 +84,25 @@ light-words : (l : D3DLIGHT9) → map wordAfter (setLight 7 l ∷ setLight 8 l �
 unfolding operate setLightAt setLightEnabledAt changeEntry insertEntry replaceEntry found enableSlot defineSlot setSlot dirtied takeFfVsDirty freshState findEntry lowerBound usedCount hasBit
 light-words l = refl
 
--- a mark adds its bits; above 63 it adds none
-mark-words : (map wordAfter (mark 0 ∷ mark 38 ∷ mark 63 ∷ mark 64 ∷ []) ≡ 0 ∷ 38 ∷ 63 ∷ 0 ∷ []) × (dirtyWord (after (mark 5 ∷ mark 34 ∷ mark 64 ∷ []) clean) ≡ 39)
+-- document 02, T-05: an equal value dirties too
+state-words : map wordAfter (setFogStart zero ∷ setFogEnd zero ∷ setFogDensity zero ∷ setAmbient 0 ∷ setTextureMask 0 ∷ []) ≡ 64 ∷ 64 ∷ 64 ∷ 128 ∷ 32 ∷ []
+unfolding operate States.setFogStart States.setFogEnd States.setFogDensity States.setAmbient States.setTextureMask dirtied takeFfVsDirty
+state-words = refl
+
+-- each in its own field
+states-set : (x y z : Float)
+    → (after (setFogStart x ∷ setAmbient 7 ∷ setFogEnd y ∷ setTextureMask 5 ∷ setFogDensity z ∷ []) freshState .«render_states» ≡ record { «fog_start» = x; «fog_end» = y; «fog_density» = z; ambient = 7 })
+    × (after (setTextureMask 5 ∷ setAmbient 7 ∷ []) freshState .«tt_active_mask» ≡ 5)
+unfolding operate States.setFogStart States.setFogEnd States.setFogDensity States.setAmbient States.setTextureMask dirtied
+states-set x y z = (refl, refl)
+
+-- a mark adds its bits; above 255 it adds none
+mark-words : (map wordAfter (mark 0 ∷ mark 38 ∷ mark 63 ∷ mark 64 ∷ mark 255 ∷ mark 256 ∷ []) ≡ 0 ∷ 38 ∷ 63 ∷ 64 ∷ 255 ∷ 0 ∷ []) × (dirtyWord (after (mark 5 ∷ mark 34 ∷ mark 256 ∷ []) clean) ≡ 39)
 unfolding operate markFfVsDirty dirtied takeFfVsDirty
 mark-words = (refl, refl)
 
--- "A fresh state has all six", and a take leaves none
-fresh-word : (takeFfVsDirty freshState .bits ≡ 63) × (dirtyWord clean ≡ 0)
+-- "A fresh state has zeros and all eight bits", and a take leaves none
+fresh-word : (takeFfVsDirty freshState .bits ≡ 255) × (dirtyWord clean ≡ 0)
 unfolding takeFfVsDirty freshState
 fresh-word = (refl, refl)
 

@@ -1,4 +1,4 @@
--- The dirty bits. Document 01, 'Calls that change the state': "Mark refuses 7 for a u32 above 63. Take never refuses."
+-- The dirty bits. Document 01, 'Calls that change the state': "Mark refuses 7 for a u32 above 63. Take never refuses." Document 02, T-05: "mark refuses above 255".
 use Prim.Native.Nat.{ℕ}
 use mathlib.Core.Bool.{cond}
 use lib.Dec.{leb}

@@ -2,6 +2,7 @@ pub mod State
 pub mod Dirty
 pub mod Transforms
 pub mod Material
+pub mod RenderStates
 pub mod Slots
 pub mod Overflow
 pub mod Lights

@@ -8,10 +8,12 @@ use lib.ListN.{replicate}
 use Rattle.d3d9_types.specs.Matrix.{identity}
 use Rattle.d3d9_types.specs.Material.{defaultMaterial}
 use Rattle.d3d9_types.specs.Light.{defaultLight}
+use Rattle.d3d9_types.specs.RenderStates.{freshStates}
 use Rattle.d3d9_types.specs.declared.matrix.Row.{Row}
 use Rattle.d3d9_types.specs.declared.matrix.D3DMATRIX.{D3DMATRIX}
 use Rattle.d3d9_types.specs.declared.material.D3DMATERIAL9.{D3DMATERIAL9}
 use Rattle.d3d9_types.specs.declared.light.D3DLIGHT9.{D3DLIGHT9}
+use Rattle.d3d9_types.specs.declared.render_states.RenderStates.{RenderStates}
 use Rattle.light_table.specs.Entry.{zeroEntry}
 use Rattle.sections.specs.Sections.{allBits}
 use Rattle.ff_state.specs.declared.state.FfState.{FfState}
@@ -35,6 +37,8 @@ withView s x =
       «overflow_lights» = s .«overflow_lights»;
       «overflow_count» = s .«overflow_count»;
       «ff_vs_dirty» = s .«ff_vs_dirty»;
+      «render_states» = s .«render_states»;
+      «tt_active_mask» = s .«tt_active_mask»;
     }
 
 abbrev pub withProjection : FfState → D3DMATRIX → FfState
@@ -55,6 +59,8 @@ withProjection s x =
       «overflow_lights» = s .«overflow_lights»;
       «overflow_count» = s .«overflow_count»;
       «ff_vs_dirty» = s .«ff_vs_dirty»;
+      «render_states» = s .«render_states»;
+      «tt_active_mask» = s .«tt_active_mask»;
     }
 
 abbrev pub withWorldPalette : FfState → List D3DMATRIX → FfState
@@ -75,6 +81,8 @@ withWorldPalette s x =
       «overflow_lights» = s .«overflow_lights»;
       «overflow_count» = s .«overflow_count»;
       «ff_vs_dirty» = s .«ff_vs_dirty»;
+      «render_states» = s .«render_states»;
+      «tt_active_mask» = s .«tt_active_mask»;
     }
 
 abbrev pub withWorldPaletteHighWater : FfState → ℕ → FfState
@@ -95,6 +103,8 @@ withWorldPaletteHighWater s x =
       «overflow_lights» = s .«overflow_lights»;
       «overflow_count» = s .«overflow_count»;
       «ff_vs_dirty» = s .«ff_vs_dirty»;
+      «render_states» = s .«render_states»;
+      «tt_active_mask» = s .«tt_active_mask»;
     }
 
 abbrev pub withTextureTransforms : FfState → List D3DMATRIX → FfState
@@ -115,6 +125,8 @@ withTextureTransforms s x =
       «overflow_lights» = s .«overflow_lights»;
       «overflow_count» = s .«overflow_count»;
       «ff_vs_dirty» = s .«ff_vs_dirty»;
+      «render_states» = s .«render_states»;
+      «tt_active_mask» = s .«tt_active_mask»;
     }
 
 abbrev pub withMaterial : FfState → D3DMATERIAL9 → FfState
@@ -135,6 +147,8 @@ withMaterial s x =
       «overflow_lights» = s .«overflow_lights»;
       «overflow_count» = s .«overflow_count»;
       «ff_vs_dirty» = s .«ff_vs_dirty»;
+      «render_states» = s .«render_states»;
+      «tt_active_mask» = s .«tt_active_mask»;
     }
 
 abbrev pub withLights : FfState → List D3DLIGHT9 → FfState
@@ -155,6 +169,8 @@ withLights s x =
       «overflow_lights» = s .«overflow_lights»;
       «overflow_count» = s .«overflow_count»;
       «ff_vs_dirty» = s .«ff_vs_dirty»;
+      «render_states» = s .«render_states»;
+      «tt_active_mask» = s .«tt_active_mask»;
     }
 
 abbrev pub withLightEnabled : FfState → ℕ → FfState
@@ -175,6 +191,8 @@ withLightEnabled s x =
       «overflow_lights» = s .«overflow_lights»;
       «overflow_count» = s .«overflow_count»;
       «ff_vs_dirty» = s .«ff_vs_dirty»;
+      «render_states» = s .«render_states»;
+      «tt_active_mask» = s .«tt_active_mask»;
     }
 
 abbrev pub withLightSetMask : FfState → ℕ → FfState
@@ -195,6 +213,8 @@ withLightSetMask s x =
       «overflow_lights» = s .«overflow_lights»;
       «overflow_count» = s .«overflow_count»;
       «ff_vs_dirty» = s .«ff_vs_dirty»;
+      «render_states» = s .«render_states»;
+      «tt_active_mask» = s .«tt_active_mask»;
     }
 
 abbrev pub withLightDefinedMask : FfState → ℕ → FfState
@@ -215,6 +235,8 @@ withLightDefinedMask s x =
       «overflow_lights» = s .«overflow_lights»;
       «overflow_count» = s .«overflow_count»;
       «ff_vs_dirty» = s .«ff_vs_dirty»;
+      «render_states» = s .«render_states»;
+      «tt_active_mask» = s .«tt_active_mask»;
     }
 
 abbrev pub withLightDirectionalMask : FfState → ℕ → FfState
@@ -235,6 +257,8 @@ withLightDirectionalMask s x =
       «overflow_lights» = s .«overflow_lights»;
       «overflow_count» = s .«overflow_count»;
       «ff_vs_dirty» = s .«ff_vs_dirty»;
+      «render_states» = s .«render_states»;
+      «tt_active_mask» = s .«tt_active_mask»;
     }
 
 abbrev pub withLightSpotMask : FfState → ℕ → FfState
@@ -255,6 +279,8 @@ withLightSpotMask s x =
       «overflow_lights» = s .«overflow_lights»;
       «overflow_count» = s .«overflow_count»;
       «ff_vs_dirty» = s .«ff_vs_dirty»;
+      «render_states» = s .«render_states»;
+      «tt_active_mask» = s .«tt_active_mask»;
     }
 
 abbrev pub withOverflowLights : FfState → List OverflowLight → FfState
@@ -275,6 +301,8 @@ withOverflowLights s x =
       «overflow_lights» = x;
       «overflow_count» = s .«overflow_count»;
       «ff_vs_dirty» = s .«ff_vs_dirty»;
+      «render_states» = s .«render_states»;
+      «tt_active_mask» = s .«tt_active_mask»;
     }
 
 abbrev pub withOverflowCount : FfState → ℕ → FfState
@@ -295,6 +323,8 @@ withOverflowCount s x =
       «overflow_lights» = s .«overflow_lights»;
       «overflow_count» = x;
       «ff_vs_dirty» = s .«ff_vs_dirty»;
+      «render_states» = s .«render_states»;
+      «tt_active_mask» = s .«tt_active_mask»;
     }
 
 abbrev pub withFfVsDirty : FfState → ℕ → FfState
@@ -315,6 +345,52 @@ withFfVsDirty s x =
       «overflow_lights» = s .«overflow_lights»;
       «overflow_count» = s .«overflow_count»;
       «ff_vs_dirty» = x;
+      «render_states» = s .«render_states»;
+      «tt_active_mask» = s .«tt_active_mask»;
+    }
+
+abbrev pub withRenderStates : FfState → RenderStates → FfState
+withRenderStates s x =
+    record {
+      view = s .view;
+      projection = s .projection;
+      «world_palette» = s .«world_palette»;
+      «world_palette_high_water» = s .«world_palette_high_water»;
+      «texture_transforms» = s .«texture_transforms»;
+      material = s .material;
+      lights = s .lights;
+      «light_enabled» = s .«light_enabled»;
+      «light_set_mask» = s .«light_set_mask»;
+      «light_defined_mask» = s .«light_defined_mask»;
+      «light_directional_mask» = s .«light_directional_mask»;
+      «light_spot_mask» = s .«light_spot_mask»;
+      «overflow_lights» = s .«overflow_lights»;
+      «overflow_count» = s .«overflow_count»;
+      «ff_vs_dirty» = s .«ff_vs_dirty»;
+      «render_states» = x;
+      «tt_active_mask» = s .«tt_active_mask»;
+    }
+
+abbrev pub withTtActiveMask : FfState → ℕ → FfState
+withTtActiveMask s x =
+    record {
+      view = s .view;
+      projection = s .projection;
+      «world_palette» = s .«world_palette»;
+      «world_palette_high_water» = s .«world_palette_high_water»;
+      «texture_transforms» = s .«texture_transforms»;
+      material = s .material;
+      lights = s .lights;
+      «light_enabled» = s .«light_enabled»;
+      «light_set_mask» = s .«light_set_mask»;
+      «light_defined_mask» = s .«light_defined_mask»;
+      «light_directional_mask» = s .«light_directional_mask»;
+      «light_spot_mask» = s .«light_spot_mask»;
+      «overflow_lights» = s .«overflow_lights»;
+      «overflow_count» = s .«overflow_count»;
+      «ff_vs_dirty» = s .«ff_vs_dirty»;
+      «render_states» = s .«render_states»;
+      «tt_active_mask» = x;
     }
 
 -- the dirty bits, by section
@@ -325,7 +401,7 @@ dirtyWord s = s .«ff_vs_dirty»
 abbrev pub noMatrix : D3DMATRIX
 noMatrix = let r : Row = record { x = nan; y = nan; z = nan; w = nan } in record { r0 = r; r1 = r; r2 = r; r3 = r }
 
--- Document 01: identities, the default material, no light, every bit dirty (ff_state.rs 258–300). Undefined slots hold the default light.
+-- Document 01: identities, the default material, no light, every bit dirty (ff_state.rs 258–300). Undefined slots hold the default light. Document 02, T-05: "A fresh state has zeros and all eight bits."
 unfoldable pub freshState : FfState
 freshState =
     record {
@@ -344,4 +420,6 @@ freshState =
       «overflow_lights» = replicate 56 zeroEntry;
       «overflow_count» = 0;
       «ff_vs_dirty» = allBits;
+      «render_states» = freshStates;
+      «tt_active_mask» = 0;
     }

@@ -8,6 +8,7 @@ use lib.ListN.{length, drop, getD, replicate}
 use Rattle.d3d9_types.specs.Light.{defaultLight, lightFits}
 use Rattle.d3d9_types.specs.Matrix.{matrixFits}
 use Rattle.d3d9_types.specs.Material.{materialFits}
+use Rattle.d3d9_types.specs.RenderStates.{statesFit}
 use Rattle.d3d9_types.specs.declared.light.D3DLIGHT9.{D3DLIGHT9}
 use Rattle.d3d9_types.specs.declared.material.D3DMATERIAL9.{D3DMATERIAL9}
 use Rattle.d3d9_types.specs.declared.matrix.D3DMATRIX.{D3DMATRIX}
@@ -67,4 +68,6 @@ pub record Valid (s : FfState) : Type 0 where
   pub dirty : dirtyWord s ≤ allBits
   pub slots : SlotsValid (s .lights) (s .«light_enabled») (s .«light_set_mask») (s .«light_defined_mask») (s .«light_directional_mask») (s .«light_spot_mask»)
   pub overflow : OverflowValid (s .«overflow_lights») (s .«overflow_count»)
+  pub states : statesFit (s .«render_states»)
+  pub texture-mask : s .«tt_active_mask» < 256
   pub floats : FloatsValid (s .view) (s .projection) (s .«world_palette») (s .«texture_transforms») (s .material) (s .lights) (s .«overflow_lights»)

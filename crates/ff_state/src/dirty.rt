@@ -7,7 +7,7 @@ use words::wide8;
 
 pub enum MarkAnswer {
     Accepted,
-    // A bit above the six.
+    // A bit above the eight.
     UnknownBits,
 }
 

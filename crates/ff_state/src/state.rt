@@ -5,6 +5,7 @@ use d3d9_types::D3DLIGHT9;
 use d3d9_types::D3DMATERIAL9;
 use d3d9_types::D3DMATRIX;
 use d3d9_types::IDENTITY;
+use d3d9_types::RenderStates;
 use d3d9_types::default_light;
 use d3d9_types::default_material;
 use light_table::OverflowLight;
@@ -30,6 +31,8 @@ pub struct FfState {
     pub overflow_lights: [OverflowLight; 56],
     pub overflow_count: u16,
     pub ff_vs_dirty: u8,
+    pub render_states: RenderStates,
+    pub tt_active_mask: u8,
 }
 
 impl FfState {
@@ -57,6 +60,13 @@ impl FfState {
             }; 56],
             overflow_count: 0,
             ff_vs_dirty: ALL,
+            render_states: RenderStates {
+                fog_start: 0.0,
+                fog_end: 0.0,
+                fog_density: 0.0,
+                ambient: 0,
+            },
+            tt_active_mask: 0,
         }
     }
 }

@@ -6,6 +6,7 @@ pub mod lights;
 pub mod materials;
 pub mod matrices;
 pub mod mirror;
+pub mod render_states;
 pub mod row_counts;
 pub mod scalars;
 pub mod transforms;

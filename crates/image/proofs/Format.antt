@@ -10,6 +10,7 @@ use Rattle.codec.proofs.Laws.Little.{length-littleBytes}
 use Rattle.codec.proofs.Laws.Matrix.{length-matrixBytes}
 use Rattle.codec.proofs.Laws.Material.{length-materialBytes}
 use Rattle.codec.proofs.Laws.Light.{length-lightBytes}
+use Rattle.codec.proofs.Laws.RenderStates.{length-statesBytes}
 use Rattle.ff_state.specs.State.{dirtyWord}
 use Rattle.ff_state.specs.declared.state.FfState.{FfState}
 use Rattle.ff_state.specs.Valid.{Valid}
@@ -44,8 +45,10 @@ module _ (s : FfState) (z : Sized s) where
         length-littleBytes 2 (s .«overflow_count»),
         length-listBytes entryBytes 112 length-entryBytes (s .«overflow_lights»),
         z .overflow,
+        length-statesBytes (s .«render_states»),
+        length-littleBytes 4 (s .«tt_active_mask»),
       )
-      (refl, (refl, (refl, (refl, (refl, (refl, (refl, (refl, (refl, (refl, (refl, (refl, (refl, (refl, refl))))))))))))))
+      (refl, (refl, (refl, (refl, (refl, (refl, (refl, (refl, (refl, (refl, (refl, (refl, (refl, (refl, (refl, refl)))))))))))))))
 
   pub length-imageBytes : length (imageBytes s) ≡ imageLength
   unfolding imageBytes

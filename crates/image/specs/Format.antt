@@ -1,17 +1,17 @@
--- The state image. Document 01, 'State image'; its fields in its order, at its places.
+-- The state image. Document 01, 'State image', and document 02, T-05; its fields in its order, at its places.
 use Prim.Native.Nat.{ℕ}
 use mathlib.Core.Path.{_≡_}
 use mathlib.Core.List.{List, [], _∷_}
-use lib.ListN.{length, replicate}
+use lib.ListN.{length}
 use Rattle.codec.specs.Little.{littleBytes}
 use Rattle.codec.specs.Matrix.{matrixBytes}
 use Rattle.codec.specs.Material.{materialBytes}
 use Rattle.codec.specs.Light.{lightBytes}
+use Rattle.codec.specs.RenderStates.{statesBytes}
 use Rattle.ff_state.specs.State.{dirtyWord}
 use Rattle.ff_state.specs.declared.state.FfState.{FfState}
 use Rattle.image_lists.specs.Lists.{listBytes}
 use Rattle.image_lists.specs.Entry.{entryBytes}
-use Rattle.image_reasons.specs.Length.{tailLength}
 use Rattle.image.specs.Table.{Field, field, tableBytes}
 
 -- Each number as it stands, odd ones too. The masks of types are not written: they follow from the lights.
@@ -30,7 +30,8 @@ imageTable s =
     ∷ field 17_928 (littleBytes 2 (s .«world_palette_high_water»))
     ∷ field 17_930 (littleBytes 2 (s .«overflow_count»))
     ∷ field 17_932 (listBytes entryBytes (s .«overflow_lights»))
-    ∷ field 24_204 (replicate tailLength 0)
+    ∷ field 24_204 (statesBytes (s .«render_states»))
+    ∷ field 24_220 (littleBytes 4 (s .«tt_active_mask»))
     ∷ []
 
 unfoldable pub imageBytes : FfState → List ℕ

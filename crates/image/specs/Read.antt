@@ -6,6 +6,7 @@ use Rattle.codec.specs.Little.{numberAt}
 use Rattle.codec.specs.Matrix.{matrixAt}
 use Rattle.codec.specs.Material.{materialAt}
 use Rattle.codec.specs.Light.{lightAt}
+use Rattle.codec.specs.RenderStates.{statesAt}
 use Rattle.d3d9_types.specs.declared.light.D3DLIGHT9.{D3DLIGHT9}
 use Rattle.ff_state.specs.declared.state.FfState.{FfState}
 use Rattle.image_lists.specs.Lists.{listAt}
@@ -22,7 +23,7 @@ lightsOf bytes = listAt lightAt 104 8 bytes 17_092
 abbrev pub definedOf : List ℕ → ℕ
 definedOf bytes = numberAt 1 bytes 17_925
 
--- the state that the bytes say; the masks of types follow from the lights
+-- the state that the bytes say; the masks of types follow from the lights, and of the texture mask's u32 the low byte is read, as one above 255 is refused
 unfoldable pub stateOf : List ℕ → FfState
 stateOf bytes =
     record {
@@ -41,6 +42,8 @@ stateOf bytes =
       «overflow_lights» = listAt entryAt 112 56 bytes 17_932;
       «overflow_count» = numberAt 2 bytes 17_930;
       «ff_vs_dirty» = numberAt 1 bytes 17_926;
+      «render_states» = statesAt bytes 24_204;
+      «tt_active_mask» = numberAt 1 bytes 24_220;
     }
 
 unfoldable pub readImage : FfState → List ℕ → ImageRead

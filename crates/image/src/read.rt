@@ -6,6 +6,7 @@ ghost use Rattle.image_reasons.specs.Length.{imageLength};
 ghost use Rattle.image.specs.Read.{stateOf, readImage};
 use codec::material_at;
 use codec::matrix_at;
+use codec::states_at;
 use codec::u8_at;
 use codec::u16_at;
 use ff_state::FfState;
@@ -55,6 +56,8 @@ pub fn state_of(bytes: &[u8]) -> FfState
         overflow_lights: entries_at(bytes, 17_932),
         overflow_count: u16_at(bytes, 17_930),
         ff_vs_dirty: u8_at(bytes, 17_926),
+        render_states: states_at(bytes, 24_204),
+        tt_active_mask: u8_at(bytes, 24_220),
     }
 }
 

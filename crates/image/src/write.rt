@@ -3,16 +3,17 @@ ghost use mathlib.Core.Path.{_≡_};
 ghost use Rattle.image.specs.Write.{writeOutcome, writeImage};
 use codec::put_material;
 use codec::put_matrix;
+use codec::put_states;
 use codec::put_u8;
 use codec::put_u16;
+use codec::put_u32;
 use ff_state::FfState;
 use image_lists::put_entries;
 use image_lists::put_lights;
 use image_lists::put_palette;
 use image_lists::put_textures;
-use image_lists::put_zeros;
 use image_reasons::IMAGE_LENGTH;
-use image_reasons::TAIL_LENGTH;
+use words::wide8;
 
 pub enum WriteAnswer {
     Written,
@@ -43,6 +44,7 @@ pub fn write_image(s: FfState, dst: &mut [u8]) -> WriteAnswer
     put_u16(dst, 17_928, s.world_palette_high_water);
     put_u16(dst, 17_930, s.overflow_count);
     put_entries(dst, 17_932, entries);
-    put_zeros(dst, 24_204, TAIL_LENGTH);
+    put_states(dst, 24_204, s.render_states);
+    put_u32(dst, 24_220, wide8(s.tt_active_mask));
     WriteAnswer::Written
 }

@@ -9,6 +9,7 @@ use borrow.Author.Tests.{le-leb, lt-leb, ne-eqb}
 use Rattle.d3d9_types.specs.Light.{defaultLight}
 use Rattle.codec.specs.Matrix.{matrixAt}
 use Rattle.codec.specs.Light as Codec
+use Rattle.codec.specs.RenderStates.{statesAt}
 use Rattle.light_table.specs.Overflow.{usedCount}
 use Rattle.ff_state.specs.Overflow.{used}
 use Rattle.ff_state.specs.State.{noMatrix}
@@ -18,8 +19,9 @@ use Rattle.image_lists.specs.Lists.{listAt}
 use Rattle.image_reasons.specs.Reasons.{countOf, refused}
 use Rattle.image_reasons.proofs.Accepted.{accepted}
 use Rattle.image_lists.proofs.Reading.{getD-listAt, take-listAt}
-use Rattle.image_model.specs.Abstract.{imageMatrix, imageSlotDefined, imageSlotLight, definedAmong, entryLight, imageLights, imageAbstract}
+use Rattle.image_model.specs.Abstract.{imageMatrix, imageSlotDefined, imageSlotLight, definedAmong, entryLight, imageLights, imageStates, imageAbstract}
 use Rattle.image.specs.Read.{stateOf}
+use Rattle.image_laws.proofs.IsAt.{low-byte}
 use Rattle.agreement.specs.Agrees.{definedFrom, slotEntry, overflowEntry, stateLights, Agrees}
 
 -- ---- matrices by state number
@@ -82,7 +84,7 @@ module _ (bytes : List ℕ) where
   lights-are few = ap₂ (λ (a b : List AbstractLight). a ++ b) slots-are (entries-are few)
 
   pub image-agrees : refused bytes ≡ false → Agrees (stateOf bytes) (imageAbstract bytes)
-  unfolding stateOf imageAbstract imageMatrix
+  unfolding stateOf imageAbstract imageMatrix imageStates statesAt
   image-agrees h =
       record {
         matrices =
@@ -95,4 +97,6 @@ module _ (bytes : List ℕ) where
         material = refl;
         lights = lights-are (accepted bytes h .count);
         highest = refl;
+        states = refl;
+        texture-mask = low-byte 3 bytes 24_220 (accepted bytes h .mask);
       }

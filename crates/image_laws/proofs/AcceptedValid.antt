@@ -16,6 +16,7 @@ use Rattle.codec.proofs.Laws.Little.{numberAt-lt}
 use Rattle.codec.proofs.Laws.Matrix.{matrixAt-fits}
 use Rattle.codec.proofs.Laws.Material.{materialAt-fits}
 use Rattle.codec.proofs.Laws.Light.{lightAt-fits}
+use Rattle.codec.proofs.Laws.RenderStates.{statesAt-fits}
 use Rattle.words.specs.Bits.{hasBit}
 use Rattle.light_table.specs.Entry.{zeroEntry}
 use Rattle.light_table.specs.Overflow.{usedCount}
@@ -25,7 +26,7 @@ use Rattle.ff_state.specs.Valid.{Valid, SlotsValid, OverflowValid, FloatsValid}
 use Rattle.image_lists.specs.Entry.{entryAt}
 use Rattle.image_lists.specs.Lists.{listAt}
 use Rattle.image_lists.specs.Masks.{setMask, typeMask, slotSet, slotIs}
-use Rattle.image_reasons.specs.Length.{imageLength}
+use Rattle.image_reasons.specs.Length.{entriesEnd}
 use Rattle.image_reasons.specs.Reasons.{countOf, unusedFrom, refused}
 use Rattle.image_reasons.proofs.Accepted.{Accepted, accepted}
 use Rattle.image_reasons.proofs.Meaning.{ascends-is, flags-are, bits-are, slots-are}
@@ -75,7 +76,7 @@ module _ (bytes : List ℕ) (b : Bytes bytes) (a : Accepted bytes) where
             λ (k : ℕ) (l : k < countOf bytes).
             listed (λ (e : OverflowLight). e .index < 0x1_0000_0000) entryAt 112 56 bytes 17_932 k zeroEntry (omega (arith, a .count))
             (numberAt-lt 4 bytes (17_932 + 112 * k) b);
-        unused = unused-entries (countOf bytes) bytes 17_932 (a .count) (omega (arith, a .long)) (imageLength - unusedFrom bytes) (omega (arith, a .count)) (a .unused);
+        unused = unused-entries (countOf bytes) bytes 17_932 (a .count) (omega (arith, a .long)) (entriesEnd - unusedFrom bytes) (omega (arith, a .count)) (a .unused);
       }
 
   floats-valid : let s = stateOf bytes in FloatsValid (s .view) (s .projection) (s .«world_palette») (s .«texture_transforms») (s .material) (s .lights) (s .«overflow_lights»)
@@ -102,9 +103,11 @@ module _ (bytes : List ℕ) (b : Bytes bytes) (a : Accepted bytes) where
         lights-length = length-listAt lightAt 104 8 bytes 17_092;
         overflow-length = length-listAt entryAt 112 56 bytes 17_932;
         high-water = a .index;
-        dirty = a .dirty;
+        dirty = omega (arith, numberAt-lt 1 bytes 17_926 b);
         slots = slots-valid;
         overflow = overflow-valid;
+        states = statesAt-fits bytes 24_204 b;
+        texture-mask = numberAt-lt 1 bytes 24_220 b;
         floats = floats-valid;
       }
 

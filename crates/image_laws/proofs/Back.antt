@@ -1,10 +1,10 @@
--- A matrix, a material, a light and an entry that were read from bytes are written as those bytes, if each of their floats is.
+-- A matrix, a material, a light, an entry and render states that were read from bytes are written as those bytes, if each of their floats is.
 -- Assumes nothing.
 use Prim.Native.Nat.{ℕ, _+_, _*_, _≤_, _<_}
 use native.Mathlib.Nat.{add-assoc}
 use native.Mathlib.Omega.{arith}
 use mathlib.Core.Path.{_≡_, ap, _∙_}
-use mathlib.Core.List.{List, _∷_, _++_}
+use mathlib.Core.List.{List, [], _∷_, _++_}
 use lib.ListN.{length}
 use Rattle.codec.specs.Little.{littleBytes, numberAt, Bytes}
 use Rattle.codec.specs.Float.{floatAt}
@@ -13,6 +13,7 @@ use Rattle.codec.specs.Color.{colorAt}
 use Rattle.codec.specs.Vector.{vectorAt}
 use Rattle.codec.specs.Material.{materialBytes, materialAt}
 use Rattle.codec.specs.Light.{lightBytes, lightAt}
+use Rattle.codec.specs.RenderStates.{statesBytes, statesAt}
 use Rattle.codec.proofs.Laws.Little.{length-littleBytes, numberAt-lt}
 use Rattle.image_lists.specs.Entry.{entryBytes, entryAt}
 use Rattle.image_lists.specs.Lists.{listAt}
@@ -20,7 +21,7 @@ use Rattle.image_lists.proofs.Reading.{length-listAt}
 use Rattle.image_reasons.proofs.Meaning.{WrittenAsRead}
 use Rattle.image_lists.proofs.Writing.{listBytes-append, length-listBytes}
 use Rattle.image_laws.proofs.IsAt.{IsAt, join, list-is, number-is}
-use Rattle.image_laws.proofs.Words.{bits, matrixWords, materialWords, lightFloats, wordBytes, matrix-words, material-words, light-words, entry-words}
+use Rattle.image_laws.proofs.Words.{bits, matrixWords, materialWords, lightFloats, fogWords, wordBytes, matrix-words, material-words, light-words, entry-words, states-words}
 
 -- the word that is written for the float at a place
 abbrev bitsAt : List ℕ → ℕ → ℕ
@@ -44,6 +45,10 @@ module _ (bytes : List ℕ) (at : ℕ) where
       ≡ listAt (numberAt 4) 4 3 bytes at ++ listAt bitsAt 4 25 bytes (at + 12)
   unfolding entryAt lightAt colorAt rowAt vectorAt listAt
   entry-numbers = simp add-assoc
+
+  states-numbers : fogWords (statesAt bytes at) ++ (statesAt bytes at .ambient ∷ []) ≡ listAt bitsAt 4 3 bytes at ++ listAt (numberAt 4) 4 1 bytes (at + 12)
+  unfolding statesAt listAt
+  states-numbers = simp add-assoc
 
 -- n floats from a place on, each written as it was read
 abbrev pub FloatsBack : List ℕ → ℕ → ℕ → Type 0
@@ -81,3 +86,11 @@ module _ (bytes : List ℕ) (b : Bytes bytes) where
 
     pub entry-back : at + 112 ≤ length bytes → FloatsBack bytes 25 (at + 12) → IsAt (entryBytes (entryAt bytes at)) bytes at
     entry-back room back = rw (entry-words (entryAt bytes at), entry-numbers bytes at) (numbered 3 (omega arith) back)
+
+    pub states-back : at + 16 ≤ length bytes → FloatsBack bytes 3 at → IsAt (statesBytes (statesAt bytes at)) bytes at
+    states-back room back =
+        let ws = listAt bitsAt 4 3 bytes at in
+        let ns = listAt (numberAt 4) 4 1 bytes (at + 12) in
+        let long : length (wordBytes ws) ≡ 12 = length-listBytes (littleBytes 4) 4 (length-littleBytes 4) ws ∙ ap (λ (k : ℕ). 4 * k) (length-listAt bitsAt 4 3 bytes at) in
+        rw (states-words (statesAt bytes at), states-numbers bytes at, listBytes-append (littleBytes 4) ws ns)
+        (join (wordBytes ws) (wordBytes ns) bytes at (floats-are 3 at (omega arith) back) (rw long (numbers-are 1 (at + 12) (omega arith))))

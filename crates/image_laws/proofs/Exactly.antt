@@ -6,27 +6,27 @@ use mathlib.Core.Path.{_≡_, sym, ap, subst, _∙_}
 use mathlib.Core.Bool.{false}
 use mathlib.Core.Logic.{_↔_}
 use mathlib.Core.List.{List, [], _∷_, _++_}
-use lib.ListN.{replicate}
 use Rattle.codec.specs.Little.{littleBytes, Bytes}
 use Rattle.codec.specs.Matrix.{matrixBytes}
 use Rattle.codec.specs.Light.{lightBytes}
 use Rattle.codec.specs.Material.{materialBytes}
+use Rattle.codec.specs.RenderStates.{statesBytes}
 use Rattle.ff_state.specs.State.{dirtyWord}
 use Rattle.ff_state.specs.declared.state.FfState.{FfState}
 use Rattle.d3d9_types.specs.declared.light.D3DLIGHT9.{D3DLIGHT9}
 use Rattle.d3d9_types.specs.declared.material.D3DMATERIAL9.{D3DMATERIAL9}
 use Rattle.d3d9_types.specs.declared.matrix.D3DMATRIX.{D3DMATRIX}
+use Rattle.d3d9_types.specs.declared.render_states.RenderStates.{RenderStates}
 use Rattle.light_table.specs.declared.entry.OverflowLight.{OverflowLight}
 use Rattle.image_lists.specs.Entry.{entryBytes}
 use Rattle.image_lists.specs.Lists.{listBytes}
-use Rattle.image_reasons.specs.Length.{tailLength}
 use Rattle.image_reasons.specs.Reasons.{refused}
 use Rattle.image.specs.Format.{imageBytes, imageTable}
 use Rattle.image.specs.Read.{stateOf}
 use Rattle.image.specs.Table.{Field, tableBytes}
 use Rattle.image_laws.specs.Exactly.{IsAccepted, IsWriting}
 use Rattle.image_laws.proofs.IsAt.{_also_}
-use Rattle.image_laws.proofs.Words.{wordBytes, matrix-words, material-words, light-words, entry-words}
+use Rattle.image_laws.proofs.Words.{wordBytes, matrix-words, material-words, light-words, entry-words, states-words}
 use Rattle.image_laws.proofs.ReadWritten.{read-written}
 use Rattle.image_laws.proofs.ValidAccepted.{valid-accepted}
 use Rattle.image_laws.proofs.AcceptedValid.{accepted-valid}
@@ -39,11 +39,6 @@ unfolding littleBytes
 little-are zero n i = omega arith
 little-are (suc k) n zero = omega arith
 little-are (suc k) n (suc i) = little-are k (n / 256) i
-
-zeros-are : (n : ℕ) → Bytes (replicate n 0)
-zeros-are zero i = omega arith
-zeros-are (suc n) zero = omega arith
-zeros-are (suc n) (suc i) = zeros-are n i
 
 both-are : (v w : List ℕ) → Bytes v → Bytes w → Bytes (v ++ w)
 both-are [] w h k i = k i
@@ -69,6 +64,9 @@ light-are l = rw (light-words l) (words-are _)
 
 entry-are : (e : OverflowLight) → Bytes (entryBytes e)
 entry-are e = rw (entry-words e) (words-are _)
+
+states-are : (r : RenderStates) → Bytes (statesBytes r)
+states-are r = rw (states-words r) (words-are _)
 
 abbrev AllBytes : List Field → Type 0
 AllBytes [] = Unit
@@ -96,7 +94,8 @@ image-bytes s =
     also little-are 2 (s .«world_palette_high_water»)
     also little-are 2 (s .«overflow_count»)
     also list-are entryBytes entry-are (s .«overflow_lights»)
-    also zeros-are tailLength
+    also states-are (s .«render_states»)
+    also little-are 4 (s .«tt_active_mask»)
     also tt)
 
 -- ---- both directions

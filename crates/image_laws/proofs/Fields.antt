@@ -1,23 +1,28 @@
 -- Each field of a written image reads as what was written.
 -- Assumes nothing.
 use Prim.Native.Nat.{ℕ, _^_, _<_}
+use native.Mathlib.Omega.{arith}
 use mathlib.Core.Path.{_≡_}
 use mathlib.Core.List.{List}
-use lib.ListN.{length, getD, replicate}
+use lib.ListN.{length, getD}
 use Rattle.codec.specs.Little.{littleBytes, numberAt}
 use Rattle.codec.specs.Material.{materialBytes, materialAt}
 use Rattle.codec.specs.Matrix.{matrixBytes, matrixAt}
 use Rattle.codec.specs.Light.{lightBytes, lightAt}
+use Rattle.codec.specs.RenderStates.{statesBytes, statesAt}
 use Rattle.codec.proofs.Laws.Little.{numberAt-skips, numberAt-starts}
 use Rattle.codec.proofs.Laws.Light.{lightAt-skips}
 use Rattle.codec.proofs.Laws.Material.{materialAt-skips, materialAt-starts}
 use Rattle.codec.proofs.Laws.Matrix.{matrixAt-skips, matrixAt-starts}
+use Rattle.codec.proofs.Laws.RenderStates.{statesAt-skips, statesAt-starts}
 use Rattle.d3d9_types.specs.Light.{defaultLight, lightFits}
 use Rattle.d3d9_types.specs.Matrix.{matrixFits}
 use Rattle.d3d9_types.specs.Material.{materialFits}
+use Rattle.d3d9_types.specs.RenderStates.{statesFit}
 use Rattle.d3d9_types.specs.declared.light.D3DLIGHT9.{D3DLIGHT9}
 use Rattle.d3d9_types.specs.declared.material.D3DMATERIAL9.{D3DMATERIAL9}
 use Rattle.d3d9_types.specs.declared.matrix.D3DMATRIX.{D3DMATRIX}
+use Rattle.d3d9_types.specs.declared.render_states.RenderStates.{RenderStates}
 use Rattle.light_table.specs.Entry.{zeroEntry}
 use Rattle.light_table.specs.declared.entry.OverflowLight.{OverflowLight}
 use Rattle.ff_state.specs.State.{noMatrix, dirtyWord}
@@ -27,7 +32,6 @@ use Rattle.image_lists.specs.Lists.{listBytes, listAt}
 use Rattle.image_lists.proofs.Back.{entryFits, matrices-start, lights-start, entries-start}
 use Rattle.image_lists.proofs.Entry.{entryAt-skips}
 use Rattle.image_lists.proofs.Reading.{listAt-skips}
-use Rattle.image_reasons.specs.Length.{tailLength}
 use Rattle.image.specs.Format.{imageBytes, imageTable, Sized}
 use Rattle.image.specs.Table.{field}
 use Rattle.image.proofs.Format.{image-holds}
@@ -48,7 +52,8 @@ pub record Written (s : FfState) (bytes : List ℕ) : Type 0 where
   pub index : HoldsField bytes (field 17_928 (littleBytes 2 (s .«world_palette_high_water»)))
   pub count : HoldsField bytes (field 17_930 (littleBytes 2 (s .«overflow_count»)))
   pub entries : HoldsField bytes (field 17_932 (listBytes entryBytes (s .«overflow_lights»)))
-  pub tail : HoldsField bytes (field 24_204 (replicate tailLength 0))
+  pub states : HoldsField bytes (field 24_204 (statesBytes (s .«render_states»)))
+  pub texture-mask : HoldsField bytes (field 24_220 (littleBytes 4 (s .«tt_active_mask»)))
 
 pub written : (s : FfState) → Sized s → Written s (imageBytes s)
 unfolding imageTable
@@ -67,6 +72,7 @@ written s z =
     let h₁₂ = h₁₁ .1 in
     let h₁₃ = h₁₂ .1 in
     let h₁₄ = h₁₃ .1 in
+    let h₁₅ = h₁₄ .1 in
     record {
       view = h₁ .0;
       projection = h₂ .0;
@@ -81,7 +87,8 @@ written s z =
       index = h₁₁ .0;
       count = h₁₂ .0;
       entries = h₁₃ .0;
-      tail = h₁₄ .0;
+      states = h₁₄ .0;
+      texture-mask = h₁₅ .0;
     }
 
 -- ---- what a field that stands at its place reads as
@@ -90,11 +97,18 @@ module _ {bytes : List ℕ} {at : ℕ} where
   pub number-reads : (k n : ℕ) → n < 256 ^ k → HoldsField bytes (field at (littleBytes k n)) → numberAt k bytes at ≡ n
   number-reads k n less = held-reads (numberAt k) (numberAt-skips k) (numberAt-starts k n less)
 
+  -- a byte's number in four bytes
+  pub mask-reads : {n : ℕ} → n < 256 → HoldsField bytes (field at (littleBytes 4 n)) → numberAt 4 bytes at ≡ n
+  mask-reads {n} less = number-reads 4 n (omega arith)
+
   pub matrix-reads : {m : D3DMATRIX} → matrixFits m → HoldsField bytes (field at (matrixBytes m)) → matrixAt bytes at ≡ m
   matrix-reads fits = held-reads matrixAt matrixAt-skips (matrixAt-starts fits)
 
   pub material-reads : {m : D3DMATERIAL9} → materialFits m → HoldsField bytes (field at (materialBytes m)) → materialAt bytes at ≡ m
   material-reads fits = held-reads materialAt materialAt-skips (materialAt-starts fits)
+
+  pub states-read : {r : RenderStates} → statesFit r → HoldsField bytes (field at (statesBytes r)) → statesAt bytes at ≡ r
+  states-read fits = held-reads statesAt statesAt-skips (statesAt-starts fits)
 
   -- a list of n items, each of which fits
   pub matrices-read : (n : ℕ) (ms : List D3DMATRIX) → length ms ≡ n → ((i : ℕ) → i < n → matrixFits (getD ms i noMatrix)) → HoldsField bytes (field at (listBytes matrixBytes ms))

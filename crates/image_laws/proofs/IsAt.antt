@@ -5,8 +5,8 @@ use native.Mathlib.Nat.{mul-suc}
 use native.Mathlib.Omega.{arith}
 use mathlib.Core.Path.{_≡_, refl, sym, ap, _∙_}
 use mathlib.Core.List.{List, [], _∷_, _++_}
-use lib.ListN.{length, getD, take, drop, replicate, length-append, length-drop, length-replicate, getD-replicate}
-use lib.Seq.{length-take-le, take-append-seam, drop-append-seam, take-take, take-add, drop-at, drop-drop, getD-take, getD-drop, ext-getD}
+use lib.ListN.{length, getD, take, drop, length-append, length-drop}
+use lib.Seq.{length-take-le, take-append-seam, drop-append-seam, take-take, take-add, drop-at, drop-drop, getD-take, getD-drop}
 use Rattle.codec.specs.Little.{littleBytes, littleNumber, numberAt, Bytes}
 use Rattle.codec.proofs.Laws.Little.{length-littleBytes, littleNumber-littleBytes, littleBytes-littleNumber}
 use Rattle.image_lists.specs.Lists.{listBytes, listAt}
@@ -25,17 +25,6 @@ held-is {f = f} h =
 pub byte-is : (v bytes : List ℕ) (at i : ℕ) → IsAt v bytes at → i < length v → getD bytes (at + i) 0 ≡ getD v i 0
 byte-is v bytes at i h l =
     sym (getD-drop at bytes i 0) ∙ sym (getD-take (length v) (drop at bytes) i 0 l) ∙ ap (λ (w : List ℕ). getD w i 0) h
-
-pub zeros-is : (n at : ℕ) (bytes : List ℕ) → at + n ≤ length bytes → ((j : ℕ) → j < n → getD bytes (at + j) 0 ≡ 0) → IsAt (replicate n 0) bytes at
-zeros-is n at bytes room z =
-    let zs : List ℕ = replicate n 0 in
-    let wide : length zs ≡ n = length-replicate n 0 in
-    let there : List ℕ = take (length zs) (drop at bytes) in
-    let long : length there ≡ n = length-take-le (length zs) (drop at bytes) (rw (wide, length-drop) (omega arith)) ∙ wide in
-    ext-getD 0 there zs (long ∙ sym wide)
-    (λ (j : ℕ) (l : j < length there).
-    let less : j < n = rw long at l in
-    getD-take (length zs) (drop at bytes) j 0 (rw wide less) ∙ getD-drop at bytes j 0 ∙ z j less ∙ sym (getD-replicate n j 0 0 less))
 
 -- ---- parts one after another
 
@@ -99,6 +88,15 @@ module _ (k : ℕ) (bytes : List ℕ) (at : ℕ) where
       let long : length t ≡ k = length-take-le k (drop at bytes) rest in
       let small : Bytes t = bytes-taken k (drop at bytes) (λ (i : ℕ). rw getD-drop (b (at + i))) in
       rw (length-littleBytes k (littleNumber t)) (sym (rw long at (littleBytes-littleNumber t small)))
+
+  -- of a number of some bytes that is at most 255, the low byte is all
+  pub low-byte : numberAt (suc k) bytes at ≤ 255 → numberAt 1 bytes at ≡ numberAt (suc k) bytes at
+  unfolding littleNumber
+  low-byte = by-cases (drop at bytes)
+    where
+      by-cases : (bs : List ℕ) → littleNumber (take (suc k) bs) ≤ 255 → littleNumber (take 1 bs) ≡ littleNumber (take (suc k) bs)
+      by-cases [] h = refl
+      by-cases (c ∷ bs) h = omega arith
 
   pub is-number : (n : ℕ) → n < 256 ^ k → IsAt (littleBytes k n) bytes at → numberAt k bytes at ≡ n
   is-number n less h = ap littleNumber (rw (length-littleBytes k n) at h) ∙ littleNumber-littleBytes k n less

@@ -12,21 +12,24 @@ use borrow.Author.Tests.{ltb-true, ltb-false, eq-eqb}
 use Rattle.d3d9_types.specs.Light.{lightFits}
 use Rattle.d3d9_types.specs.Material.{materialFits}
 use Rattle.d3d9_types.specs.Matrix.{matrixFits}
+use Rattle.d3d9_types.specs.RenderStates.{statesFit}
 use Rattle.d3d9_types.specs.declared.light.D3DLIGHT9.{D3DLIGHT9}
 use Rattle.d3d9_types.specs.declared.material.D3DMATERIAL9.{D3DMATERIAL9}
 use Rattle.d3d9_types.specs.declared.matrix.D3DMATRIX.{D3DMATRIX}
+use Rattle.d3d9_types.specs.declared.render_states.RenderStates.{RenderStates}
 use Rattle.codec.specs.Little.{littleBytes}
 use Rattle.codec.specs.Matrix.{matrixBytes}
 use Rattle.codec.specs.Material.{materialBytes}
 use Rattle.codec.specs.Light.{lightBytes}
+use Rattle.codec.specs.RenderStates.{statesBytes}
 use Rattle.light_table.specs.declared.entry.OverflowLight.{OverflowLight}
 use Rattle.image_lists.specs.Entry.{entryBytes}
 use Rattle.image_reasons.specs.Every.{everyBelow}
 use Rattle.image_lists.specs.Lists.{listBytes}
 use Rattle.image_reasons.specs.Tests.{plainAt, nanFree, sameBytes, sameByte}
 use Rattle.image_reasons.proofs.Every.{every-is, every-holds}
-use Rattle.image_laws.proofs.IsAt.{IsAt, byte-is, behind}
-use Rattle.image_laws.proofs.Words.{wordBytes, matrixWords, materialWords, lightFloats, matrix-words, material-words, light-words, entry-words, matrix-plain, material-plain, light-plain, plain-pass}
+use Rattle.image_laws.proofs.IsAt.{IsAt, byte-is, front, behind}
+use Rattle.image_laws.proofs.Words.{wordBytes, matrixWords, materialWords, lightFloats, fogWords, matrix-words, material-words, light-words, entry-words, states-words, matrix-plain, material-plain, light-plain, fog-plain, plain-pass}
 
 -- ---- floats
 
@@ -49,6 +52,12 @@ module _ (bytes : List ℕ) (at : ℕ) where
   entry-pass e fits h =
       plain-pass (lightFloats (e .light)) bytes (at + 12)
       (behind (wordBytes (e .index ∷ e .enabled ∷ e .light .«type_» ∷ [])) (wordBytes (lightFloats (e .light))) bytes at (rw (entry-words e) at h)) (light-plain fits)
+
+  -- before the ambient colour
+  pub fog-pass : (r : RenderStates) → statesFit r → IsAt (statesBytes r) bytes at → nanFree 3 bytes at ≡ true
+  unfolding listBytes littleBytes
+  fog-pass r fits h =
+      plain-pass (fogWords r) bytes at (front (wordBytes (fogWords r)) (wordBytes (r .ambient ∷ [])) bytes at (rw (states-words r) at h)) (fog-plain fits)
 
   -- one stretch of floats behind another
   pub nan-join : (a b : ℕ) → nanFree a bytes at ≡ true → nanFree b bytes (at + 4 * a) ≡ true → nanFree (a + b) bytes at ≡ true

@@ -9,6 +9,7 @@ use lib.Dec.{lit<, ltb}
 use lib.ListN.{getD, getD-replicate}
 use lib.Seq.{getD-drop}
 use borrow.Author.Tests.{ltb-true, ltb-false}
+use Rattle.codec.specs.Little.{numberAt}
 use Rattle.light_table.specs.Entry.{zeroEntry}
 use Rattle.light_table.specs.declared.entry.OverflowLight.{OverflowLight}
 use Rattle.ff_state.specs.State.{dirtyWord}
@@ -21,7 +22,8 @@ use Rattle.image.specs.Format.{imageBytes}
 use Rattle.image.specs.Read.{stateOf, lightsOf, definedOf}
 use Rattle.image.proofs.Format.{valid-sized}
 use Rattle.image_laws.proofs.Masks.{mask-is}
-use Rattle.image_laws.proofs.Fields.{written, number-reads, matrix-reads, material-reads, matrices-read, lights-read, entries-read}
+use Rattle.image_laws.proofs.IsAt.{low-byte}
+use Rattle.image_laws.proofs.Fields.{written, number-reads, mask-reads, matrix-reads, material-reads, states-read, matrices-read, lights-read, entries-read}
 
 module _ (s : FfState) (v : Valid s) where
   set-mask-is : setMask (s .«light_defined_mask») (s .lights) ≡ s .«light_set_mask»
@@ -70,6 +72,7 @@ module _ (s : FfState) (v : Valid s) where
   read-written =
       let w = written s (valid-sized v) in
       let lights : lightsOf (imageBytes s) ≡ s .lights = lights-read 8 (s .lights) (v .lights-length) (v .floats .lights) (w .lights) in
+      let mask : numberAt 4 (imageBytes s) 24_220 ≡ s .«tt_active_mask» = mask-reads (v .texture-mask) (w .texture-mask) in
       let defined : definedOf (imageBytes s) ≡ s .«light_defined_mask» = number-reads 1 (s .«light_defined_mask») (v .slots .defined-width) (w .defined) in
       fields-are s
       (matrix-reads (v .floats .view) (w .view))
@@ -87,3 +90,5 @@ module _ (s : FfState) (v : Valid s) where
       (entries-read 56 (s .«overflow_lights») (v .overflow-length) entry-fits (w .entries))
       (number-reads 2 (s .«overflow_count») (omega (arith, v .overflow .count)) (w .count))
       (number-reads 1 (dirtyWord s) (omega (arith, v .dirty)) (w .dirty))
+      (states-read (v .states) (w .states))
+      (low-byte 3 (imageBytes s) 24_220 (omega (arith, v .texture-mask)) ∙ mask)

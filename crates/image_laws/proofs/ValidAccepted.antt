@@ -5,9 +5,9 @@ use native.Mathlib.Omega.{arith}
 use mathlib.Core.Path.{_≡_, refl, sym, ap, _∙_}
 use mathlib.Core.Bool.{Bool, true, false, not, _||_}
 use mathlib.Core.List.{List}
-use lib.Dec.{lit<, ltb}
-use lib.ListN.{length, getD, replicate, length-replicate, getD-replicate}
-use borrow.Author.Tests.{ltb-true, ltb-false, le-leb, eq-eqb}
+use lib.Dec.{lit<}
+use lib.ListN.{length, getD, replicate, getD-replicate}
+use borrow.Author.Tests.{le-leb, eq-eqb}
 use Rattle.d3d9_types.specs.Light.{defaultLight}
 use Rattle.d3d9_types.specs.Matrix.{matrixFits}
 use Rattle.d3d9_types.specs.declared.matrix.D3DMATRIX.{D3DMATRIX}
@@ -20,11 +20,11 @@ use Rattle.words.specs.Bits.{hasBit}
 use Rattle.light_table.specs.Entry.{zeroEntry}
 use Rattle.light_table.specs.Overflow.{usedCount}
 use Rattle.light_table.specs.declared.entry.OverflowLight.{OverflowLight}
-use Rattle.ff_state.specs.State.{noMatrix, dirtyWord}
+use Rattle.ff_state.specs.State.{noMatrix}
 use Rattle.ff_state.specs.Valid.{Valid, slotLight}
 use Rattle.ff_state.specs.declared.state.FfState.{FfState}
 use Rattle.image_lists.specs.Entry.{entryBytes, entryAt}
-use Rattle.image_reasons.specs.Length.{tailLength, imageLength}
+use Rattle.image_reasons.specs.Length.{entriesEnd, imageLength}
 use Rattle.image_lists.specs.Lists.{listBytes, listAt}
 use Rattle.image_reasons.specs.Tests.{nanFree, lightsNanFree, plainLight, entriesNanFree, plainEntry, ascends, flags, flagAt, zeros, zeroByte, bitsDefined, bitDefined, slotsDefault, slotDefault, defaultAt}
 use Rattle.image_reasons.specs.Reasons.{countOf, refused}
@@ -37,9 +37,9 @@ use Rattle.image.specs.Format.{imageBytes}
 use Rattle.image.specs.Read.{stateOf}
 use Rattle.image.proofs.Format.{valid-sized, length-imageBytes}
 use Rattle.image_laws.proofs.IsAt.{IsAt, held-is, item-is, byte-is}
-use Rattle.image_laws.proofs.Fields.{Written, written, number-reads}
+use Rattle.image_laws.proofs.Fields.{Written, written, number-reads, mask-reads}
 use Rattle.image_laws.proofs.ReadWritten.{unused-is, read-written}
-use Rattle.image_laws.proofs.Passes.{matrix-pass, material-pass, light-pass, entry-pass, nan-join, nan-items, is-same}
+use Rattle.image_laws.proofs.Passes.{matrix-pass, material-pass, light-pass, entry-pass, fog-pass, nan-join, nan-items, is-same}
 
 implies : (a b : Bool) → (a ≡ true → b ≡ true) → (not a || b) ≡ true
 implies true b h = h refl
@@ -48,6 +48,9 @@ implies false b h = refl
 or-else : (a b : Bool) → (a ≡ false → b ≡ true) → (a || b) ≡ true
 or-else true b h = refl
 or-else false b h = h refl
+
+most : {n : ℕ} → n < 256 → n ≤ 255
+most h = omega arith
 
 module _ (s : FfState) (v : Valid s) (bytes : List ℕ) (w : Written s bytes) where
   -- ---- floats
@@ -123,7 +126,7 @@ module _ (s : FfState) (v : Valid s) (bytes : List ℕ) (w : Written s bytes) wh
         sym (getD-listAt entryAt 112 56 bytes 17_932 k zeroEntry less) ∙ ap (λ (es : List OverflowLight). getD es k zeroEntry) read in
         le-leb (entryAt bytes (17_932 + 112 * k) .enabled) 1 (rw is (v .overflow .flags k (omega arith))))
 
-    -- byte o of the entries and the tail, from an unused entry on
+    -- byte o of the entries, from an unused entry on
     unused-zero : (o : ℕ) → 112 * n ≤ o → o < 6_272 → getD bytes (17_932 + o) 0 ≡ 0
     unused-zero o above below =
         let k = o / 112 in
@@ -134,24 +137,14 @@ module _ (s : FfState) (v : Valid s) (bytes : List ℕ) (w : Written s bytes) wh
         let is : IsAt (replicate 112 0) bytes (17_932 + 112 * k) = rw (unused-is s v k from less, zero-bytes) at (entry-is k less) in
         rw place (byte-is (replicate 112 0) bytes (17_932 + 112 * k) r is (omega arith) ∙ getD-replicate 112 r 0 0 (omega arith))
 
-    tail-zero : (o : ℕ) → 6_272 ≤ o → o < 6_272 + tailLength → getD bytes (17_932 + o) 0 ≡ 0
-    tail-zero o above below =
-        let j = o - 6_272 in
-        let place : 17_932 + o ≡ 24_204 + j = omega arith in
-        rw place (byte-is (replicate tailLength 0) bytes 24_204 j (held-is (w .tail)) (rw length-replicate (omega arith)) ∙ getD-replicate tailLength j 0 0 (omega arith))
-
-    unused-pass : zeros (imageLength - (17_932 + 112 * n)) bytes (17_932 + 112 * n) ≡ true
+    unused-pass : zeros (entriesEnd - (17_932 + 112 * n)) bytes (17_932 + 112 * n) ≡ true
     unfolding zeros
     unused-pass =
-        every-is (zeroByte bytes (17_932 + 112 * n)) (imageLength - (17_932 + 112 * n))
-        (λ (j : ℕ) (l : j < imageLength - (17_932 + 112 * n)).
+        every-is (zeroByte bytes (17_932 + 112 * n)) (entriesEnd - (17_932 + 112 * n))
+        (λ (j : ℕ) (l : j < entriesEnd - (17_932 + 112 * n)).
         let o = 112 * n + j in
         let place : 17_932 + 112 * n + j ≡ 17_932 + o = omega arith in
-        rw place (eq-eqb (getD bytes (17_932 + o) 0) 0 (by-cases o (omega arith) (omega arith) (ltb o 6_272) refl)))
-      where
-        by-cases : (o : ℕ) → 112 * n ≤ o → o < 6_272 + tailLength → (t : Bool) → ltb o 6_272 ≡ t → getD bytes (17_932 + o) 0 ≡ 0
-        by-cases o above below true q = unused-zero o above (ltb-true o 6_272 q)
-        by-cases o above below false q = tail-zero o (ltb-false o 6_272 q) below
+        rw place (eq-eqb (getD bytes (17_932 + o) 0) 0 (unused-zero o (omega arith) (omega arith))))
 
   written-passes : length bytes ≡ imageLength → stateOf bytes ≡ s → Accepted bytes
   unfolding stateOf
@@ -159,12 +152,12 @@ module _ (s : FfState) (v : Valid s) (bytes : List ℕ) (w : Written s bytes) wh
       let count : countOf bytes ≡ s .«overflow_count» = ap (λ (t : FfState). t .«overflow_count») read in
       let enabled : numberAt 1 bytes 17_924 ≡ s .«light_enabled» = ap (λ (t : FfState). t .«light_enabled») read in
       let defined : numberAt 1 bytes 17_925 ≡ s .«light_defined_mask» = ap (λ (t : FfState). t .«light_defined_mask») read in
-      let dirty : numberAt 1 bytes 17_926 ≡ dirtyWord s = ap (λ (t : FfState). dirtyWord t) read in
+      let mask : numberAt 4 bytes 24_220 ≡ s .«tt_active_mask» = mask-reads (v .texture-mask) (w .texture-mask) in
       let index : numberAt 2 bytes 17_928 ≡ s .«world_palette_high_water» = ap (λ (t : FfState). t .«world_palette_high_water») read in
       let entries : listAt entryAt 112 56 bytes 17_932 ≡ s .«overflow_lights» = ap (λ (t : FfState). t .«overflow_lights») read in
       record {
         long = long;
-        dirty = rw dirty (v .dirty);
+        mask = rw mask (most (v .texture-mask));
         zero = number-reads 1 0 (lit< tt) (w .zero);
         index = rw index (v .high-water);
         count = rw count (v .overflow .count);
@@ -176,6 +169,7 @@ module _ (s : FfState) (v : Valid s) (bytes : List ℕ) (w : Written s bytes) wh
         floats = floats-pass;
         light-floats = lights-pass;
         entry-floats = entries-pass;
+        fog-floats = fog-pass bytes 24_204 (s .«render_states») (v .states) (held-is (w .states));
       }
 
 pub valid-accepted : (s : FfState) → Valid s → refused (imageBytes s) ≡ false

@@ -16,12 +16,14 @@ use Rattle.d3d9_types.specs.Color.{colorRow, colorFits}
 use Rattle.d3d9_types.specs.Light.{lightFits}
 use Rattle.d3d9_types.specs.Material.{materialFits}
 use Rattle.d3d9_types.specs.Matrix.{rowFits, matrixFits}
+use Rattle.d3d9_types.specs.RenderStates.{statesFit}
 use Rattle.d3d9_types.specs.Vector.{vectorFits}
 use Rattle.d3d9_types.specs.declared.color.D3DCOLORVALUE.{D3DCOLORVALUE}
 use Rattle.d3d9_types.specs.declared.light.D3DLIGHT9.{D3DLIGHT9}
 use Rattle.d3d9_types.specs.declared.material.D3DMATERIAL9.{D3DMATERIAL9}
 use Rattle.d3d9_types.specs.declared.matrix.D3DMATRIX.{D3DMATRIX}
 use Rattle.d3d9_types.specs.declared.matrix.Row.{Row}
+use Rattle.d3d9_types.specs.declared.render_states.RenderStates.{RenderStates}
 use Rattle.d3d9_types.specs.declared.vector.D3DVECTOR.{D3DVECTOR}
 use Rattle.float32.proofs.Nan.{nan-is}
 use Rattle.codec.specs.Little.{littleBytes}
@@ -31,6 +33,7 @@ use Rattle.codec.specs.Color.{colorBytes}
 use Rattle.codec.specs.Vector.{vectorBytes}
 use Rattle.codec.specs.Material.{materialBytes}
 use Rattle.codec.specs.Light.{lightBytes}
+use Rattle.codec.specs.RenderStates.{statesBytes}
 use Rattle.codec.proofs.Laws.Little.{length-littleBytes}
 use Rattle.light_table.specs.declared.entry.OverflowLight.{OverflowLight}
 use Rattle.image_lists.specs.Entry.{entryBytes}
@@ -77,6 +80,10 @@ lightFloats l =
     ∷ bits (l .phi)
     ∷ [])))))
 
+-- of the render states, those before the ambient colour
+abbrev pub fogWords : RenderStates → List ℕ
+fogWords r = bits (r .«fog_start») ∷ bits (r .«fog_end») ∷ bits (r .«fog_density») ∷ []
+
 abbrev pub wordBytes : List ℕ → List ℕ
 wordBytes ws = listBytes (littleBytes 4) ws
 
@@ -95,6 +102,10 @@ light-words l = refl
 pub entry-words : (e : OverflowLight) → entryBytes e ≡ wordBytes (e .index ∷ e .enabled ∷ e .light .«type_» ∷ lightFloats (e .light))
 unfolding entryBytes lightBytes colorBytes vectorBytes rowBytes flatten floatBytes littleBytes listBytes
 entry-words e = refl
+
+pub states-words : (r : RenderStates) → statesBytes r ≡ wordBytes (fogWords r ++ (r .ambient ∷ []))
+unfolding statesBytes flatten floatBytes littleBytes listBytes
+states-words r = refl
 
 -- ---- what is written for a float that fits is plain
 
@@ -153,6 +164,9 @@ light-plain h =
     let last = more (bits-plain _ (h .attenuation2)) (more (bits-plain _ (h .theta)) (more (bits-plain _ (h .phi)) none)) in
     let seven = more (bits-plain _ (h .range)) (more (bits-plain _ (h .falloff)) (more (bits-plain _ (h .attenuation0)) (more (bits-plain _ (h .attenuation1)) last))) in
     and-color (h .diffuse) (and-color (h .specular) (and-color (h .ambient) (and-vector (h .position) (and-vector (h .direction) seven))))
+
+pub fog-plain : {r : RenderStates} → statesFit r → Plains (fogWords r)
+fog-plain h = more (bits-plain _ (h .fog-start)) (more (bits-plain _ (h .fog-end)) (more (bits-plain _ (h .fog-density)) none))
 
 -- plain words at a place pass
 pub plain-pass : (ns bytes : List ℕ) (at : ℕ) → IsAt (wordBytes ns) bytes at → Plains ns → nanFree (length ns) bytes at ≡ true

@@ -1,33 +1,30 @@
 -- Bytes that are not refused are the image of the state that is read from them: each field's bytes are at its place, and the fields tile the whole.
 -- Assumes nothing.
-use Prim.Native.Nat.{ℕ, _+_, _-_, _*_, _≤_, _<_}
+use Prim.Native.Nat.{ℕ, _+_, _*_, _≤_, _<_}
 use native.Mathlib.Omega.{arith}
 use mathlib.Core.Path.{_≡_, sym, ap, _∙_}
 use mathlib.Core.Bool.{false}
 use mathlib.Core.List.{List}
 use lib.Dec.{lit≤}
-use lib.ListN.{length, getD, take, replicate}
+use lib.ListN.{length, take}
 use lib.Seq.{take-length}
-use borrow.Author.Tests.{eqb-true}
 use Rattle.codec.specs.Little.{littleBytes, numberAt, Bytes}
 use Rattle.codec.specs.Matrix.{matrixBytes, matrixAt}
 use Rattle.codec.specs.Light.{lightBytes, lightAt}
 use Rattle.codec.proofs.Laws.Matrix.{length-matrixBytes}
 use Rattle.codec.proofs.Laws.Light.{length-lightBytes}
 use Rattle.image_lists.specs.Entry.{entryBytes, entryAt}
-use Rattle.image_reasons.specs.Length.{tailLength, imageLength}
+use Rattle.image_reasons.specs.Length.{imageLength}
 use Rattle.image_lists.specs.Lists.{listBytes, listAt}
-use Rattle.image_reasons.specs.Reasons.{unusedFrom, refused}
-use Rattle.image_reasons.specs.Tests.{zeros, zeroByte}
+use Rattle.image_reasons.specs.Reasons.{refused}
 use Rattle.image_reasons.proofs.Accepted.{Accepted, accepted}
-use Rattle.image_reasons.proofs.Every.{every-holds}
 use Rattle.image_reasons.proofs.Meaning.{floats-back, light-floats-back, entry-floats-back}
 use Rattle.image_lists.proofs.Entry.{length-entryBytes}
 use Rattle.image.specs.Format.{imageBytes, imageTable}
 use Rattle.image.specs.Read.{stateOf}
 use Rattle.image.proofs.Format.{image-tiles, length-imageBytes, valid-sized}
-use Rattle.image_laws.proofs.IsAt.{IsAt, AllAt, _also_, zeros-is, list-is, number-is, table-is}
-use Rattle.image_laws.proofs.Back.{FloatsBack, matrix-back, material-back, light-back, entry-back}
+use Rattle.image_laws.proofs.IsAt.{IsAt, AllAt, _also_, list-is, number-is, low-byte, table-is}
+use Rattle.image_laws.proofs.Back.{FloatsBack, matrix-back, material-back, light-back, entry-back, states-back}
 use Rattle.image_laws.proofs.AcceptedValid.{accepted-valid}
 
 module _ (bytes : List ℕ) (b : Bytes bytes) (a : Accepted bytes) where
@@ -54,17 +51,6 @@ module _ (bytes : List ℕ) (b : Bytes bytes) (a : Accepted bytes) where
       list-is entryBytes 112 length-entryBytes entryAt bytes 56 17_932
       (λ (i : ℕ) (l : i < 56). entry-back bytes b (17_932 + 112 * i) (omega (arith, a .long)) (λ (k : ℕ) (m : k < 25). entry-floats-back bytes 17_932 (a .entry-floats) i k l m))
 
-  -- the tail belongs to what stands behind the entries in use
-  tail-is : IsAt (replicate tailLength 0) bytes 24_204
-  unfolding zeros
-  tail-is =
-      zeros-is tailLength 24_204 bytes (omega (arith, a .long))
-      (λ (j : ℕ) (l : j < tailLength).
-      let from = unusedFrom bytes in
-      let o = 24_204 + j - from in
-      let place : 24_204 + j ≡ from + o = omega (arith, a .count) in
-      rw place (eqb-true (getD bytes (from + o) 0) 0 (every-holds (zeroByte bytes from) (imageLength - from) (a .unused) o (omega (arith, a .count)))))
-
   number-at : (k at : ℕ) → at + k ≤ imageLength → IsAt (littleBytes k (numberAt k bytes at)) bytes at
   number-at k at room = number-is k bytes at b (rw (a .long) room)
 
@@ -84,7 +70,8 @@ module _ (bytes : List ℕ) (b : Bytes bytes) (a : Accepted bytes) where
       also number-at 2 17_928 (lit≤ tt)
       also number-at 2 17_930 (lit≤ tt)
       also entries-are
-      also tail-is
+      also states-back bytes b 24_204 (rw (a .long) (lit≤ tt)) (floats-back 3 bytes 24_204 (a .fog-floats))
+      also rw (low-byte 3 bytes 24_220 (a .mask)) (number-at 4 24_220 (lit≤ tt))
       also tt
 
 pub written-read : (bytes : List ℕ) → Bytes bytes → refused bytes ≡ false → imageBytes (stateOf bytes) ≡ bytes

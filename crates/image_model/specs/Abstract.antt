@@ -6,7 +6,9 @@ use mathlib.Core.List.{List, [], _∷_, _++_}
 use lib.Dec.{leb, eqb}
 use Rattle.d3d9_types.specs.Matrix.{identity}
 use Rattle.d3d9_types.specs.declared.matrix.D3DMATRIX.{D3DMATRIX}
+use Rattle.d3d9_types.specs.declared.render_states.RenderStates.{RenderStates}
 use Rattle.codec.specs.Little.{numberAt}
+use Rattle.codec.specs.Float.{floatAt}
 use Rattle.codec.specs.Matrix.{matrixAt}
 use Rattle.codec.specs.Material.{materialAt}
 use Rattle.codec.specs.Light as Codec
@@ -47,9 +49,22 @@ imageLights bytes =
     definedAmong (imageSlotDefined bytes) (imageSlotLight bytes) (0 ∷ 1 ∷ 2 ∷ 3 ∷ 4 ∷ 5 ∷ 6 ∷ 7 ∷ [])
     ++ listAt entryLight 112 (countOf bytes) bytes 17_932
 
+-- document 02, T-05: from 24,204 on "in this order: three floats, colour u32, mask u32"
+unfoldable pub imageStates : List ℕ → RenderStates
+imageStates bytes =
+    record { «fog_start» = floatAt bytes 24_204; «fog_end» = floatAt bytes 24_208; «fog_density» = floatAt bytes 24_212; ambient = numberAt 4 bytes 24_216 }
+
 -- "highest palette index u16 17,928": "an image that is read brings its own index"
 unfoldable pub imageAbstract : List ℕ → AbstractState
-imageAbstract bytes = record { matrix = imageMatrix bytes; material = materialAt bytes 17_024; lights = imageLights bytes; highestIndex = numberAt 2 bytes 17_928 }
+imageAbstract bytes =
+    record {
+      matrix = imageMatrix bytes;
+      material = materialAt bytes 17_024;
+      lights = imageLights bytes;
+      highestIndex = numberAt 2 bytes 17_928;
+      renderStates = imageStates bytes;
+      textureMask = numberAt 4 bytes 24_220;
+    }
 
 -- reading an image in: document 01's number, and the book afterwards. "An image read in replaces all"; a refused call leaves the book alone.
 unfoldable pub readRefusal : List ℕ → ℕ

@@ -5,3 +5,4 @@ pub mod Numbers
 pub mod Meaning
 pub mod Unused
 pub mod Accepted
+pub mod Examples

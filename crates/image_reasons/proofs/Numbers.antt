@@ -6,7 +6,7 @@ use mathlib.Core.Bool.{true, false, not}
 use mathlib.Core.List.{List}
 use lib.Dec.{ltb, eqb}
 use borrow.Author.Tests.{lt-ltb, le-ltb, eq-eqb, ne-eqb, ltb-false}
-use Rattle.image_reasons.specs.Reasons.{dirtyAbove63, zeroByteSet, indexAbove255, countOf, numbersRefused}
+use Rattle.image_reasons.specs.Reasons.{maskAbove255, zeroByteSet, indexAbove255, countOf, numbersRefused}
 use Rattle.lemmas.proofs.Tests.{neither}
 
 module _ (b : ℕ) {n m : ℕ} (read : n ≡ m) where
@@ -25,4 +25,4 @@ module _ (b : ℕ) {n m : ℕ} (read : n ≡ m) where
 pub few-entries : (bytes : List ℕ) → numbersRefused bytes ≡ false → countOf bytes ≤ 56
 unfolding numbersRefused
 few-entries bytes h =
-    ltb-false 56 (countOf bytes) (neither (indexAbove255 bytes) _ (neither (zeroByteSet bytes) _ (neither (dirtyAbove63 bytes) _ h .1) .1) .1)
+    ltb-false 56 (countOf bytes) (neither (indexAbove255 bytes) _ (neither (zeroByteSet bytes) _ (neither (maskAbove255 bytes) _ h .1) .1) .1)

@@ -1,4 +1,4 @@
-// The reasons to refuse an image. Document 01, 'State image'.
+// The reasons to refuse an image. Document 01, 'State image'; document 02, T-05.
 ghost use mathlib.Core.Path.{_≡_};
 ghost use Prim.Native.Nat.{_≤_};
 ghost use lib.ListN.{length};
@@ -14,17 +14,20 @@ use crate::tests::slots_default;
 use crate::tests::zeros_at;
 use codec::u8_at;
 use codec::u16_at;
+use codec::u32_at;
 
-// Zero bytes behind the entries: none.
-pub const TAIL_LENGTH: usize = 0;
+const ENTRIES_END: usize = 24_204;
 
-pub const IMAGE_LENGTH: usize = 24_204 + TAIL_LENGTH;
+// Behind the entries: the fog's three floats, the ambient colour and the texture mask.
+pub const TAIL_LENGTH: usize = 20;
+
+pub const IMAGE_LENGTH: usize = ENTRIES_END + TAIL_LENGTH;
 
 fn numbers_refused(s: &[u8]) -> bool
     requires { ⌜ imageLength ≤ length (now s) ⌝ }
     ensures { λ r. ⌜ r ≡ numbersRefused (now (s .entry)) ⌝ }
 {
-    if 63 < u8_at(s, 17_926) {
+    if 255 < u32_at(s, 24_220) {
         return true;
     }
     if u8_at(s, 17_927) != 0 {
@@ -48,7 +51,7 @@ fn entries_refused(s: &[u8]) -> bool
         return true;
     }
     let from = 17_932 + 112 * n;
-    !zeros_at(s, from, IMAGE_LENGTH - from)
+    !zeros_at(s, from, ENTRIES_END - from)
 }
 
 fn slots_refused(s: &[u8]) -> bool
@@ -73,7 +76,10 @@ fn another_nan(s: &[u8]) -> bool
     if !lights_nan_free(s, 17_092) {
         return true;
     }
-    !entries_nan_free(s, 17_932)
+    if !entries_nan_free(s, 17_932) {
+        return true;
+    }
+    !nan_free(s, 24_204, 3)
 }
 
 // Whether some reason for 9 holds.

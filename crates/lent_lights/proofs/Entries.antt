@@ -80,7 +80,7 @@ module _ (t : Table) {vs : List Val} (is : Is Tb.the-row t vs) where
   left-holds h was =
       let w = LL.owed St.the-type St′.the-laws h _ was in
       let k = LL.owed Tb.the-type Tb′.the-laws t _ is in
-      LL.owes St.the-type St′.the-laws (tableLeft h t) (w .0, (w .1 .0, (w .1 .1 .0, (w .1 .1 .1 .0, (w .1 .1 .1 .1 .0, (w .1 .1 .1 .1 .1 .0, (w .1 .1 .1 .1 .1 .1 .0, (w .1 .1 .1 .1 .1 .1 .1 .0, (w .1 .1 .1 .1 .1 .1 .1 .1 .0, (w .1 .1 .1 .1 .1 .1 .1 .1 .1 .0, (w .1 .1 .1 .1 .1 .1 .1 .1 .1 .1 .0, (w .1 .1 .1 .1 .1 .1 .1 .1 .1 .1 .1 .0, (k .0, (k .1 .0, ((refl, left-dirty h was), tt)))))))))))))))
+      LL.owes St.the-type St′.the-laws (tableLeft h t) (w .0, (w .1 .0, (w .1 .1 .0, (w .1 .1 .1 .0, (w .1 .1 .1 .1 .0, (w .1 .1 .1 .1 .1 .0, (w .1 .1 .1 .1 .1 .1 .0, (w .1 .1 .1 .1 .1 .1 .1 .0, (w .1 .1 .1 .1 .1 .1 .1 .1 .0, (w .1 .1 .1 .1 .1 .1 .1 .1 .1 .0, (w .1 .1 .1 .1 .1 .1 .1 .1 .1 .1 .0, (w .1 .1 .1 .1 .1 .1 .1 .1 .1 .1 .1 .0, (k .0, (k .1 .0, ((refl, left-dirty h was), w .1 .1 .1 .1 .1 .1 .1 .1 .1 .1 .1 .1 .1 .1 .1)))))))))))))))
 
 -- ---- what a call leaves
 

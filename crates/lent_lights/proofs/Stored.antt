@@ -68,7 +68,7 @@ module _ (h : FfState) (i : ℕ) (l : D3DLIGHT9) where
   slotted-holds was is r r-is fits =
       let w = LL.owed St.the-type St′.the-laws h _ was in
       let k = LL.owed Mk.the-type Mk′.the-laws r _ r-is in
-      LL.owes St.the-type St′.the-laws (slotted r) (w .0, (w .1 .0, (w .1 .1 .0, (w .1 .1 .1 .0, (w .1 .1 .1 .1 .0, (w .1 .1 .1 .1 .1 .0, (array-set Lt.the-field Lt′.the-field-laws 8 (h .lights) i l (w .1 .1 .1 .1 .1 .1 .0) is, (w .1 .1 .1 .1 .1 .1 .1 .0, (k .0, (k .1 .0, (k .1 .1 .0, (k .1 .1 .1 .0, (w .1 .1 .1 .1 .1 .1 .1 .1 .1 .1 .1 .1 .0, (w .1 .1 .1 .1 .1 .1 .1 .1 .1 .1 .1 .1 .1 .0, ((refl, fits), tt)))))))))))))))
+      LL.owes St.the-type St′.the-laws (slotted r) (w .0, (w .1 .0, (w .1 .1 .0, (w .1 .1 .1 .0, (w .1 .1 .1 .1 .0, (w .1 .1 .1 .1 .1 .0, (array-set Lt.the-field Lt′.the-field-laws 8 (h .lights) i l (w .1 .1 .1 .1 .1 .1 .0) is, (w .1 .1 .1 .1 .1 .1 .1 .0, (k .0, (k .1 .0, (k .1 .1 .0, (k .1 .1 .1 .0, (w .1 .1 .1 .1 .1 .1 .1 .1 .1 .1 .1 .1 .0, (w .1 .1 .1 .1 .1 .1 .1 .1 .1 .1 .1 .1 .1 .0, ((refl, fits), w .1 .1 .1 .1 .1 .1 .1 .1 .1 .1 .1 .1 .1 .1 .1)))))))))))))))
 
 -- ---- enabled
 
@@ -81,7 +81,7 @@ enabled-fits h was = LL.owed St.the-type St′.the-laws h _ was .1 .1 .1 .1 .1 .
 pub with-enabled : (h : FfState) → IsState h → (d : ℕ) → d < 2 ^ 8 → IsState (withLightEnabled h d)
 with-enabled h was d fits =
     let w = LL.owed St.the-type St′.the-laws h _ was in
-    LL.owes St.the-type St′.the-laws (withLightEnabled h d) (w .0, (w .1 .0, (w .1 .1 .0, (w .1 .1 .1 .0, (w .1 .1 .1 .1 .0, (w .1 .1 .1 .1 .1 .0, (w .1 .1 .1 .1 .1 .1 .0, ((refl, fits), (w .1 .1 .1 .1 .1 .1 .1 .1 .0, (w .1 .1 .1 .1 .1 .1 .1 .1 .1 .0, (w .1 .1 .1 .1 .1 .1 .1 .1 .1 .1 .0, (w .1 .1 .1 .1 .1 .1 .1 .1 .1 .1 .1 .0, (w .1 .1 .1 .1 .1 .1 .1 .1 .1 .1 .1 .1 .0, (w .1 .1 .1 .1 .1 .1 .1 .1 .1 .1 .1 .1 .1 .0, (w .1 .1 .1 .1 .1 .1 .1 .1 .1 .1 .1 .1 .1 .1 .0, tt)))))))))))))))
+    LL.owes St.the-type St′.the-laws (withLightEnabled h d) (w .0, (w .1 .0, (w .1 .1 .0, (w .1 .1 .1 .0, (w .1 .1 .1 .1 .0, (w .1 .1 .1 .1 .1 .0, (w .1 .1 .1 .1 .1 .1 .0, ((refl, fits), w .1 .1 .1 .1 .1 .1 .1 .1))))))))
 
 module _ (h : FfState) (n : ℕ) where
   pub slot-there : (r : Bool) → r ≡ hasBit (h .«light_defined_mask») n → T r → withFfVsDirty h (bitOr (dirtyWord h) 8) ≡ dirtied (defineSlot h n) 8

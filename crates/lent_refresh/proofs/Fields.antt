@@ -1,4 +1,4 @@
--- The fields of a lent state: what whoever holds one knows of each, and what closing the borrow asks where the dirty word was written. Assumes nothing.
+-- The fields of a lent state: what whoever holds one knows of each. Assumes nothing.
 use mathlib.Core.Path.{_≡_, refl, sym, _∙_, subst}
 use Prim.Native.Nat.{ℕ, _<_, _^_}
 use native.Mathlib.Omega.{arith}
@@ -26,6 +26,8 @@ use Rattle.d3d9_types.proofs.material.D3DMATERIAL9.Laws as Mt′
 use Rattle.d3d9_types.specs.declared.matrix.D3DMATRIX.{D3DMATRIX}
 use Rattle.d3d9_types.proofs.matrix.D3DMATRIX as Mx
 use Rattle.d3d9_types.proofs.matrix.D3DMATRIX.Laws as Mx′
+use Rattle.d3d9_types.proofs.render_states.RenderStates as Rs
+use Rattle.d3d9_types.proofs.render_states.RenderStates.Laws as Rs′
 use Rattle.light_table.proofs.entry.OverflowLight as En
 use Rattle.light_table.proofs.entry.OverflowLight.Laws as En′
 use Rattle.sections.specs.declared.key.FfVsKey.{FfVsKey}
@@ -84,7 +86,7 @@ part i h = getD (flat (fields St.the-type) (valss (fields St.the-type) (LL.spell
 
 -- a state's machine value by its fields
 abbrev pub openVal : FfState → Val
-openVal h = vstruct (ofList (part 0 h ∷ part 1 h ∷ part 2 h ∷ part 3 h ∷ part 4 h ∷ part 5 h ∷ part 6 h ∷ part 7 h ∷ part 8 h ∷ part 9 h ∷ part 10 h ∷ part 11 h ∷ part 12 h ∷ part 13 h ∷ part 14 h ∷ []))
+openVal h = vstruct (ofList (part 0 h ∷ part 1 h ∷ part 2 h ∷ part 3 h ∷ part 4 h ∷ part 5 h ∷ part 6 h ∷ part 7 h ∷ part 8 h ∷ part 9 h ∷ part 10 h ∷ part 11 h ∷ part 12 h ∷ part 13 h ∷ part 14 h ∷ part 15 h ∷ part 16 h ∷ []))
 
 pub by-fields : (h : FfState) → stateVal h ≡ openVal h
 unfolding part
@@ -92,7 +94,7 @@ by-fields h = refl
 
 -- the same with the palette written out, and with no bit dirty
 abbrev pub wideVal : FfState → Val → Val
-wideVal h dirty = vstruct (ofList (part 0 h ∷ part 1 h ∷ arrayVal (matrixVals (h .«world_palette»)) ∷ part 3 h ∷ part 4 h ∷ part 5 h ∷ part 6 h ∷ part 7 h ∷ part 8 h ∷ part 9 h ∷ part 10 h ∷ part 11 h ∷ part 12 h ∷ part 13 h ∷ dirty ∷ []))
+wideVal h dirty = vstruct (ofList (part 0 h ∷ part 1 h ∷ arrayVal (matrixVals (h .«world_palette»)) ∷ part 3 h ∷ part 4 h ∷ part 5 h ∷ part 6 h ∷ part 7 h ∷ part 8 h ∷ part 9 h ∷ part 10 h ∷ part 11 h ∷ part 12 h ∷ part 13 h ∷ dirty ∷ part 15 h ∷ part 16 h ∷ []))
 
 pub palette-val : (h : FfState) → part 2 h ≡ arrayVal (matrixVals (h .«world_palette»))
 unfolding part
@@ -174,6 +176,18 @@ module _ (h : FfState) (was : IsState h) where
       let fits : dirtyWord h < 2 ^ 8 = LL.owed St.the-type St′.the-laws h _ was .1 .1 .1 .1 .1 .1 .1 .1 .1 .1 .1 .1 .1 .1 .0 .1 in
       omega arith
 
+  pub textures-are : Is (Array Mx.the-row 8) (h .«texture_transforms») (part 4 h ∷ [])
+  unfolding part
+  textures-are = array-as (Mx.the-field .row) Mx.the-row (Mx.the-field .into) (λ x vs p. p) 8 (h .«texture_transforms») (LL.owed St.the-type St′.the-laws h _ was .1 .1 .1 .1 .0)
+
+  pub states-are : Is Rs.the-row (h .«render_states») (part 15 h ∷ [])
+  unfolding part
+  states-are = LL.owed St.the-type St′.the-laws h _ was .1 .1 .1 .1 .1 .1 .1 .1 .1 .1 .1 .1 .1 .1 .1 .0
+
+  pub mask-is : Is u8 (h .«tt_active_mask») (part 16 h ∷ [])
+  unfolding part
+  mask-is = LL.owed St.the-type St′.the-laws h _ was .1 .1 .1 .1 .1 .1 .1 .1 .1 .1 .1 .1 .1 .1 .1 .1 .0
+
   -- the first world matrix
   pub palette-length : length (matrixVals (h .«world_palette»)) ≡ 256
   palette-length = array-length Mx.the-field Mx′.the-field-laws 256 (h .«world_palette») (LL.owed St.the-type St′.the-laws h _ was .1 .1 .0)
@@ -186,12 +200,6 @@ module _ (h : FfState) (was : IsState h) where
 
   pub world-val : getD (matrixVals (h .«world_palette»)) 0 vunit ≡ matrixVal (getD (h .«world_palette») 0 noMatrix)
   world-val = vals-get Mx.the-field Mx′.the-field-laws (h .«world_palette») 0 noMatrix palette-some
-
-  -- written
-  pub with-dirty : (d : ℕ) → d < 2 ^ 8 → IsState (withFfVsDirty h d)
-  with-dirty d fits =
-      let w = LL.owed St.the-type St′.the-laws h _ was in
-      LL.owes St.the-type St′.the-laws (withFfVsDirty h d) (w .0, (w .1 .0, (w .1 .1 .0, (w .1 .1 .1 .0, (w .1 .1 .1 .1 .0, (w .1 .1 .1 .1 .1 .0, (w .1 .1 .1 .1 .1 .1 .0, (w .1 .1 .1 .1 .1 .1 .1 .0, (w .1 .1 .1 .1 .1 .1 .1 .1 .0, (w .1 .1 .1 .1 .1 .1 .1 .1 .1 .0, (w .1 .1 .1 .1 .1 .1 .1 .1 .1 .1 .0, (w .1 .1 .1 .1 .1 .1 .1 .1 .1 .1 .1 .0, (w .1 .1 .1 .1 .1 .1 .1 .1 .1 .1 .1 .1 .0, (w .1 .1 .1 .1 .1 .1 .1 .1 .1 .1 .1 .1 .1 .0, ((refl, fits), tt)))))))))))))))
 
 -- as `write` asks it, of a local that a part is copied to
 module _ {M : Type 1} (𝓤 : URA M) (H : Heap 𝓤) (A : Atoms 𝓤) (W : Given 𝓤 H A) where
@@ -228,6 +236,15 @@ module _ {M : Type 1} (𝓤 : URA M) (H : Heap 𝓤) (A : Atoms 𝓤) (W : Given
 
     pub dirty-typed : T (hasTy (tyInt w8) (part 14 h)) × WT (part 14 h)
     dirty-typed = uint-lawful 𝓤 H A W w8 .typed (dirtyWord h) _ (dirty-is h was) .0
+
+    pub textures-typed : T (hasTy (tyArray Mx′.mir 8) (part 4 h)) × WT (part 4 h)
+    textures-typed = array-lawful 𝓤 H A W Mx.the-row (LL.lawful Mx.the-type Mx′.the-laws 𝓤 H A W) 8 .typed (h .«texture_transforms») _ (textures-are h was) .0
+
+    pub states-typed : T (hasTy Rs′.mir (part 15 h)) × WT (part 15 h)
+    states-typed = LL.lawful Rs.the-type Rs′.the-laws 𝓤 H A W .typed (h .«render_states») _ (states-are h was) .0
+
+    pub mask-typed : T (hasTy (tyInt w8) (part 16 h)) × WT (part 16 h)
+    mask-typed = uint-lawful 𝓤 H A W w8 .typed (h .«tt_active_mask») _ (mask-is h was) .0
 
     pub world-typed : T (hasTy Mx′.mir (getD (matrixVals (h .«world_palette»)) 0 vunit)) × WT (getD (matrixVals (h .«world_palette»)) 0 vunit)
     world-typed = subst (λ (v : Val). T (hasTy Mx′.mir v) × WT v) (sym (world-val h was)) (LL.lawful Mx.the-type Mx′.the-laws 𝓤 H A W .typed (getD (h .«world_palette») 0 noMatrix) _ (world-is h was) .0)

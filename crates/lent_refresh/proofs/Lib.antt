@@ -2,5 +2,3 @@ pub mod Again
 pub mod Fields
 pub mod Cell
 pub mod Order
-pub mod Numbers
-pub mod Laws

@@ -6,6 +6,7 @@ ghost use Rattle.sections.specs.Sections.{sections};
 ghost use Rattle.refresh.specs.Written.{written};
 use crate::lights::write_lights_of;
 use crate::palette::write_palette_of;
+use crate::textures::write_textures_of;
 use ff_state::FfState;
 use refresh_parts::write_small;
 use sections::FfVsKey;
@@ -24,9 +25,11 @@ pub fn write_dirty(s: &mut FfState, key: FfVsKey, mirror: &mut [f32]) -> u32
         s.world_palette[0],
         s.projection,
         s.material,
+        s.render_states,
         mirror,
     );
     write_lights_of(s, bits, key, mirror);
     write_palette_of(s, bits, key, mirror);
+    write_textures_of(s, bits, mirror);
     bits
 }

@@ -1,7 +1,7 @@
 // The C name. The key is eight numbers, as in `ff_refresh`.
 ghost use mathlib.Core.Path.{_≡_};
 ghost use Rattle.pack_calls.specs.Key.{keyOf};
-ghost use Rattle.lent_refresh.specs.Mirror.{left, lentRefresh};
+ghost use Rattle.refresh_parts.specs.Mirror.{left, lentRefresh};
 use crate::mirror::refresh;
 use ff_state::FfState;
 use pack_calls::key_of;

@@ -5,6 +5,7 @@ mod lights;
 mod mirror;
 mod number;
 mod palette;
+mod textures;
 
 pub use host::ff_state_refresh;
 pub use mirror::refresh;

@@ -1,6 +1,6 @@
 // The dirty sections of a lent state, in a mirror.
 ghost use mathlib.Core.Path.{_≡_};
-ghost use Rattle.lent_refresh.specs.Mirror.{left, lentRefresh};
+ghost use Rattle.refresh_parts.specs.Mirror.{left, lentRefresh};
 use crate::dirty::write_dirty;
 use crate::number::refresh_number;
 use ff_state::FfState;

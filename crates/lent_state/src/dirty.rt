@@ -8,7 +8,7 @@ use ff_state::FfState;
 pub extern "C" fn ff_state_mark_ff_vs_dirty(s: &mut FfState, bits: u32) -> u32
     ensures { λ r. ⌜ (r, now (s .exit)) ≡ ffStateMarkFfVsDirty (now (s .entry)) bits ⌝ }
 {
-    if bits < 64 {
+    if bits < 256 {
         s.ff_vs_dirty = s.ff_vs_dirty | bits as u8;
         return 0;
     }

@@ -4,11 +4,14 @@
 mod dirty;
 mod fresh;
 mod material;
-mod transforms;
+mod render_states;
 
 pub use dirty::ff_state_mark_ff_vs_dirty;
 pub use dirty::ff_state_take_ff_vs_dirty;
 pub use fresh::ff_state_fresh;
 pub use material::ff_state_set_material;
-pub use transforms::ff_state_multiply_transform;
-pub use transforms::ff_state_set_transform;
+pub use render_states::ff_state_set_ambient;
+pub use render_states::ff_state_set_fog_density;
+pub use render_states::ff_state_set_fog_end;
+pub use render_states::ff_state_set_fog_start;
+pub use render_states::ff_state_set_texture_mask;

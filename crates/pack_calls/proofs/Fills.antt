@@ -17,7 +17,6 @@ use Rattle.image_reasons.specs.Reasons.{refused}
 use Rattle.calls.specs.Answer.{answered}
 use Rattle.calls.specs.Call.{callCode, reading}
 use Rattle.calls.proofs.Answers.{next-zero}
-use Rattle.sections.specs.Counts.{sectionRows}
 use Rattle.sections.proofs.Tiles.{fits-mirror}
 use Rattle.sections.specs.declared.key.FfVsKey.{FfVsKey}
 use Rattle.pack_calls.specs.Fill.{maskNumber, fillBytes, fillNumber, ffFillSection}
@@ -36,29 +35,30 @@ fill-refuses σ k dst s = go (eqb (length dst) (16 * stateCount σ s k)) (maskAc
     go true false = refl
     go false mask = refl
 
-module _ (σ : Section) (k : FfVsKey) {rows : ℕ} (is : rows ≡ sectionRows σ k 0) where
-  four-rows : 4 * (4 * rows) ≡ 16 * sectionRows σ k 0
+module _ (σ : Section) (s : FfState) (k : FfVsKey) {rows : ℕ} (is : rows ≡ stateCount σ s k) where
+  four-rows : 4 * (4 * rows) ≡ 16 * stateCount σ s k
   four-rows = omega (arith, is)
 
   pub fill-fits : k .«vertex_blend_count» < 256 → 4 * rows ≤ 4460
-  fill-fits byte = omega (arith, is, fits-mirror k 0 byte σ)
+  fill-fits byte = omega (arith, is, fits-mirror k (inputsOf s .textureMask) byte σ)
 
   -- a buffer of the mirror's floats has the section's at its front
   pub front : k .«vertex_blend_count» < 256 → (xs : List Float) → length xs ≡ 4460 → length (take (4 * rows) xs) ≡ 4 * rows
   front byte xs e = length-take-le (4 * rows) xs (omega (arith, e, fill-fits byte))
 
-  pub front-rows : k .«vertex_blend_count» < 256 → (xs : List Float) → length xs ≡ 4460 → length (take (4 * rows) xs) ≡ 4 * sectionRows σ k 0
+  pub front-rows : k .«vertex_blend_count» < 256 → (xs : List Float) → length xs ≡ 4460 → length (take (4 * rows) xs) ≡ 4 * stateCount σ s k
   front-rows byte xs e = front byte xs e ∙ ap (λ (n : ℕ). 4 * n) is
 
   module _ (dst : List ℕ) where
-    pub fill-wrong : (s : FfState) → (length dst ≡ 4 * (4 * rows) → ⊥) → fillNumber σ k dst s ≡ 4
-    fill-wrong s n = fill-refuses σ k dst s ∙ rw (ne-eqb (length dst) (16 * stateCount σ s k) (λ e. n (e ∙ sym four-rows)))
+    pub fill-wrong : (length dst ≡ 4 * (4 * rows) → ⊥) → fillNumber σ k dst s ≡ 4
+    fill-wrong n = fill-refuses σ k dst s ∙ rw (ne-eqb (length dst) (16 * stateCount σ s k) (λ e. n (e ∙ sym four-rows)))
 
-    pub fill-right : (s : FfState) → length dst ≡ 4 * (4 * rows) → fillNumber σ k dst s ≡ maskNumber σ k s
+    pub fill-right : length dst ≡ 4 * (4 * rows) → fillNumber σ k dst s ≡ maskNumber σ k s
     unfolding fillNumber
-    fill-right s e = rw (eq-eqb (length dst) (16 * stateCount σ s k) (e ∙ four-rows))
+    fill-right e = rw (eq-eqb (length dst) (16 * stateCount σ s k) (e ∙ four-rows))
 
-    pub fill-done : (image : List ℕ) → refused image ≡ false → length dst ≡ 4 * (4 * rows)
-        → answered (maskNumber σ k (stateOf image)) (fillBytes σ k (stateOf image)) dst ≡ ffFillSection σ image k dst
+    -- the state is that of the image
+    pub fill-done : (image : List ℕ) → s ≡ stateOf image → refused image ≡ false → length dst ≡ 4 * (4 * rows)
+        → answered (maskNumber σ k s) (fillBytes σ k s) dst ≡ ffFillSection σ image k dst
     unfolding reading callCode
-    fill-done image r e = rw (r, fill-right (stateOf image) e, next-zero (maskNumber σ k (stateOf image)))
+    fill-done image read r e = rw (r, ← read, fill-right e, next-zero (maskNumber σ k s))

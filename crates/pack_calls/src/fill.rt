@@ -14,7 +14,6 @@ use image_reasons::image_refused;
 use packing::PackAnswer;
 use packing::pack_section;
 use sections::FfVsKey;
-use sections::NO_TEXTURES;
 use sections::Section;
 use sections::section_rows;
 
@@ -55,12 +54,12 @@ fn fill_keyed(section: Section, image: &[u8], key: FfVsKey, dst: &mut [u8]) -> u
     if image_refused(image) {
         return 9;
     }
-    let rows = section_rows(section, key, NO_TEXTURES);
+    let s = state_of(image);
+    let rows = section_rows(section, key, s.tt_active_mask);
     let n = 4 * rows as usize;
     if dst.len() != 4 * n {
         return 4;
     }
-    let s = state_of(image);
     let mut floats = mirror_floats();
     fill_bytes(section, s, key, &mut floats[..n], dst)
 }

@@ -1,12 +1,12 @@
-// How many rows: of a section, and of a draw.
+// How many rows: of a section, and of a draw. The texture mask is the image's.
 ghost use mathlib.Core.Path.{_≡_};
 ghost use Rattle.calls.specs.Answer.{answer};
 ghost use Rattle.pack_calls.specs.Key.{keyOf};
 ghost use Rattle.pack_calls.specs.RowCounts.{ffSectionRows, hostRowCount};
 use crate::key::key_of;
+use image::state_of;
 use image_reasons::image_refused;
 use sections::FfVsKey;
-use sections::NO_TEXTURES;
 use sections::Section;
 use sections::ff_vs_row_count;
 
@@ -16,7 +16,8 @@ fn rows_keyed(section: Section, image: &[u8], key: FfVsKey, out: &mut u32) -> u3
     if image_refused(image) {
         return 9;
     }
-    let rows = sections::section_rows(section, key, NO_TEXTURES);
+    let s = state_of(image);
+    let rows = sections::section_rows(section, key, s.tt_active_mask);
     *out = rows as u32;
     0
 }
@@ -27,7 +28,8 @@ fn count_keyed(image: &[u8], key: FfVsKey, out: &mut u32) -> u32
     if image_refused(image) {
         return 9;
     }
-    let n = ff_vs_row_count(key, NO_TEXTURES);
+    let s = state_of(image);
+    let n = ff_vs_row_count(key, s.tt_active_mask);
     *out = n as u32;
     0
 }

@@ -9,6 +9,7 @@ use Rattle.lemmas.proofs.Branch.{branch}
 use Rattle.d3d9_types.specs.Numbers.{floatFits}
 use Rattle.d3d9_types.specs.Matrix.{rowFits, matrixFits}
 use Rattle.d3d9_types.specs.Material.{materialFits}
+use Rattle.d3d9_types.specs.RenderStates.{statesFit}
 use Rattle.d3d9_types.specs.Light.{defaultLight, lightFits}
 use Rattle.d3d9_types.specs.declared.light.D3DLIGHT9.{D3DLIGHT9}
 use Rattle.words.specs.Bits.{hasBit}
@@ -18,16 +19,18 @@ use Rattle.light_table.specs.Active.{slotsFrom, isActive, activeOverflow}
 use Rattle.light_table.specs.declared.entry.OverflowLight.{OverflowLight}
 use Rattle.ff_state.specs.Active.{lightActiveMask, activeLights}
 use Rattle.ff_state.specs.Overflow.{used}
+use Rattle.ff_state.specs.State.{noMatrix}
 use Rattle.ff_state.specs.Valid.{Valid}
 use Rattle.sections.specs.declared.sections.Section.{Section}
-use Rattle.sections.specs.declared.sections.Section.the-variants.{Wv, Proj, Material, Lights, Palette, Tt}
+use Rattle.sections.specs.declared.sections.Section.the-variants.{Wv, Proj, Material, Lights, Palette, Tt, Fog, Ambient}
 use Rattle.ff_state.specs.declared.state.FfState.{FfState}
 use Rattle.rows.specs.Rows.{floats}
-use Rattle.rows.proofs.Fits.{Each, each-append, floats-fit, projection-fits, world-view-fits, palette-fits, material-fits}
+use Rattle.rows.proofs.Fits.{Each, each-append, floats-fit, projection-fits, world-view-fits, palette-fits, material-fits, textures-fit, fog-fits, ambient-fits}
 use Rattle.light_rows.specs.Light.{lightsRows}
 use Rattle.light_rows.proofs.Fits.{lights-fit}
 use Rattle.sections.specs.declared.key.FfVsKey.{FfVsKey}
 use Rattle.packing.specs.Inputs.{Inputs, packedRows, inputsOf, packedLights}
+use Rattle.sections.specs.Counts.{places}
 use Rattle.sections.specs.Key.{lightLimit}
 
 -- what the rows take over as it is; the products are rounded
@@ -35,6 +38,8 @@ pub record InputsFit (i : Inputs) : Type 0 where
   pub projection : matrixFits (i .projection)
   pub material : materialFits (i .material)
   pub lights : Each lightFits (i .lights)
+  pub textures : Each matrixFits (i .textures)
+  pub states : statesFit (i .renderStates)
 
 each-take : {A : Type 0} (P : A → Type 0) (n : ℕ) (xs : List A) → Each P xs → Each P (take n xs)
 each-take P zero xs p = tt
@@ -50,7 +55,9 @@ rows-fit k i h Lights =
     branch (Each rowFits) (eqb (k .«light_active_mask») 0) [] (lightsRows (i .view) (packedLights k i)) (λ none. tt)
     (λ some. lights-fit (i .view) (packedLights k i) (each-take lightFits (lightLimit k) (i .lights) (h .lights)))
 rows-fit k i h Palette = palette-fits (i .view) _
-rows-fit k i h Tt = tt
+rows-fit k i h Tt = textures-fit (i .textureMask) (i .textures) (each-take matrixFits (places (i .textureMask)) (i .textures) (h .textures))
+rows-fit k i h Fog = fog-fits (k .«fog_mode») _ _ _ (h .states .fog-start) (h .states .fog-end) (h .states .fog-density)
+rows-fit k i h Ambient = ambient-fits (i .renderStates .ambient)
 
 pub packed-fit : (k : FfVsKey) (i : Inputs) → InputsFit i → (σ : Section) (j : ℕ) → floatFits (getD (floats (packedRows σ k i)) j nan)
 packed-fit k i h σ = floats-fit (packedRows σ k i) (rows-fit k i h σ)
@@ -91,4 +98,6 @@ module _ {s : FfState} (v : Valid s) where
         projection = v .floats .projection;
         material = v .floats .material;
         lights = active-fit;
+        textures = each-at matrixFits noMatrix (s .«texture_transforms») (λ i h. v .floats .texture i (rw (v .texture-length) at h));
+        states = v .states;
       }

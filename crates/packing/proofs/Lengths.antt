@@ -17,16 +17,16 @@ use Rattle.light_table.proofs.Compaction.{few}
 use Rattle.ff_state.specs.Valid.{Valid}
 use Rattle.ff_state.specs.declared.state.FfState.{FfState}
 use Rattle.sections.specs.declared.sections.Section.{Section}
-use Rattle.sections.specs.declared.sections.Section.the-variants.{Wv, Proj, Material, Lights, Palette, Tt}
+use Rattle.sections.specs.declared.sections.Section.the-variants.{Wv, Proj, Material, Lights, Palette, Tt, Fog, Ambient}
 use Rattle.rows.specs.Rows.{floats}
-use Rattle.rows.specs.Matrices.{projectionRows, worldViewRows, paletteRows}
+use Rattle.rows.specs.Matrices.{projectionRows, worldViewRows, paletteRows, textureRows}
 use Rattle.rows.specs.Material.{materialRows}
 use Rattle.rows.proofs.Floats.{length-floats, length-rowsOf}
 use Rattle.light_rows.specs.Light.{lightRows, sixRows, lightsRows}
 use Rattle.sections.specs.Counts.{places, materialCount, lightCount, paletteMatrices, paletteCount, textureCount}
 use Rattle.sections.specs.Key.{lightLimit}
 use Rattle.sections.specs.declared.key.FfVsKey.{FfVsKey}
-use Rattle.sections.proofs.Bounds.{matrices-most}
+use Rattle.sections.proofs.Bounds.{places-most, matrices-most}
 use Rattle.sections.proofs.Shape.{limit-small}
 use Rattle.packing.specs.Inputs.{Inputs, packedLights, packedRows, maskAccepted, inputsOf}
 use Rattle.packing.specs.Pack.{stateRows, inputRows, stateCount}
@@ -49,11 +49,11 @@ material-rows true true m = refl
 material-rows true false m = refl
 material-rows false sp m = refl
 
--- what the key and the inputs have to be: u8 numbers, 256 world matrices, no texture stage
+-- what the key and the inputs have to be: u8 numbers, 256 world matrices, 8 texture matrices
 pub record SizedInputs (k : FfVsKey) (i : Inputs) : Type 0 where
   pub count : k .«vertex_blend_count» < 256
   pub palette : length (i .palette) ≡ 256
-  pub textures : i .textureMask ≡ 0
+  pub textures : length (i .textures) ≡ 8
 
 module _ (k : FfVsKey) (i : Inputs) (z : SizedInputs k i) where
   pub lights-length : k .«light_active_mask» ≡ lowBits (length (packedLights k i)) → 6 * length (packedLights k i) ≡ lightCount k
@@ -71,7 +71,7 @@ module _ (k : FfVsKey) (i : Inputs) (z : SizedInputs k i) where
       ∙ lights-length (eqb-true (k .«light_active_mask») (lowBits (length (packedLights k i))) m)
 
   pub rows-length : (σ : Section) → maskAccepted σ k i ≡ true → length (packedRows σ k i) ≡ inputRows σ k i
-  unfolding packedRows maskAccepted worldViewRows projectionRows materialCount paletteRows paletteCount textureCount
+  unfolding packedRows maskAccepted worldViewRows projectionRows materialCount paletteRows paletteCount textureRows textureCount
   rows-length Wv m = refl
   rows-length Proj m = refl
   rows-length Material m = material-rows (k .«lighting_enabled») (k .«specular_enable») (i .material)
@@ -80,7 +80,12 @@ module _ (k : FfVsKey) (i : Inputs) (z : SizedInputs k i) where
       length-rowsOf (worldViewRows (i .view)) 4 (λ w. refl) (take (paletteMatrices k) (i .palette))
       ∙ ap (λ (n : ℕ). 4 * n) (length-take-le (paletteMatrices k) (i .palette) (omega (arith, matrices-most k (z .count), z .palette)))
       ∙ mul-comm 4 (paletteMatrices k)
-  rows-length Tt m = rw (z .textures, places-none)
+  rows-length Tt m =
+      length-rowsOf projectionRows 4 (λ w. refl) (take (places (i .textureMask)) (i .textures))
+      ∙ ap (λ (n : ℕ). 4 * n) (length-take-le (places (i .textureMask)) (i .textures) (omega (arith, places-most (i .textureMask), z .textures)))
+      ∙ mul-comm 4 (places (i .textureMask))
+  rows-length Fog m = refl
+  rows-length Ambient m = refl
 
   -- "4 times the section's rows"
   pub floats-length : (σ : Section) → maskAccepted σ k i ≡ true → length (floats (packedRows σ k i)) ≡ 4 * inputRows σ k i
@@ -89,4 +94,4 @@ module _ (k : FfVsKey) (i : Inputs) (z : SizedInputs k i) where
 -- of a valid state
 pub state-length : {s : FfState} → Valid s → (k : FfVsKey) → k .«vertex_blend_count» < 256 → (σ : Section) → maskAccepted σ k (inputsOf s) ≡ true
     → length (stateRows σ s k) ≡ 4 * stateCount σ s k
-state-length {s} v k byte σ = floats-length k (inputsOf s) (record { count = byte; palette = v .palette-length; textures = refl }) σ
+state-length {s} v k byte σ = floats-length k (inputsOf s) (record { count = byte; palette = v .palette-length; textures = v .texture-length }) σ

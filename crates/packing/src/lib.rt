@@ -5,6 +5,8 @@ mod lights;
 mod pack;
 
 pub use answer::PackAnswer;
+pub use fill::fill_ambient_section;
+pub use fill::fill_fog_section;
 pub use fill::fill_material_section;
 pub use fill::fill_palette_section;
 pub use fill::fill_proj_section;

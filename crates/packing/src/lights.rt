@@ -9,14 +9,13 @@ use ff_state::FfState;
 use light_rows::write_lights;
 use light_table::low_bits;
 use sections::FfVsKey;
-use sections::NO_TEXTURES;
 use sections::Section;
 
 // The length is tested before the mask.
 pub fn fill_lights_section(s: FfState, key: FfVsKey, dst: &mut [f32]) -> PackAnswer
     ensures { λ r. ⌜ packOutcome r (now (dst .exit)) ≡ packSection Lights s key (now (dst .entry)) ⌝ }
 {
-    if !is_length(Section::Lights, key, NO_TEXTURES, dst.len()) {
+    if !is_length(Section::Lights, key, s.tt_active_mask, dst.len()) {
         return PackAnswer::WrongLength;
     }
     let mask = key.light_active_mask;

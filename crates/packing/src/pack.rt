@@ -2,6 +2,8 @@
 ghost use mathlib.Core.Path.{_≡_};
 ghost use Rattle.packing.specs.Pack.{packOutcome, packSection};
 use crate::answer::PackAnswer;
+use crate::fill::fill_ambient_section;
+use crate::fill::fill_fog_section;
 use crate::fill::fill_material_section;
 use crate::fill::fill_palette_section;
 use crate::fill::fill_proj_section;
@@ -33,6 +35,12 @@ pub fn pack_section(section: Section, s: FfState, key: FfVsKey, dst: &mut [f32])
         }
         Section::Tt => {
             return fill_tt_section(s, key, dst);
+        }
+        Section::Fog => {
+            return fill_fog_section(s, key, dst);
+        }
+        Section::Ambient => {
+            return fill_ambient_section(s, key, dst);
         }
     }
 }

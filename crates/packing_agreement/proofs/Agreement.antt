@@ -36,20 +36,38 @@ matrices-at m from (suc n) (suc i) h =
     let e : suc from + i ≡ from + suc i = omega arith in
     matrices-at m (suc from) n i (le-of-suc-le-suc h) ∙ ap m e
 
+-- a list of n matrices that are those from a state number on
+all-at : (m : ℕ → D3DMATRIX) (ms : List D3DMATRIX) (from n : ℕ) → length ms ≡ n → ((i : ℕ) → i < n → getD ms i noMatrix ≡ m (from + i)) → ms ≡ matricesFrom m from n
+all-at m ms from n long e =
+    ext-getD noMatrix ms (matricesFrom m from n) (long ∙ sym (length-matrices m from n))
+    (λ i h.
+    let below : i < n = rw long at h in
+    e i below ∙ sym (matrices-at m from n i below))
+
 module _ {s : FfState} {a : AbstractState} (v : Valid s) (g : Agrees s a) where
   palette-agrees : s .«world_palette» ≡ matricesFrom (a .matrix) 256 256
-  palette-agrees =
-      ext-getD noMatrix (s .«world_palette») (matricesFrom (a .matrix) 256 256) (v .palette-length ∙ sym (length-matrices (a .matrix) 256 256))
-      (λ i h.
-      let below : i < 256 = rw (v .palette-length) at h in
-      g .matrices .palette i below ∙ sym (matrices-at (a .matrix) 256 256 i below))
+  palette-agrees = all-at (a .matrix) (s .«world_palette») 256 256 (v .palette-length) (g .matrices .palette)
+
+  textures-agree : s .«texture_transforms» ≡ matricesFrom (a .matrix) 16 8
+  textures-agree = all-at (a .matrix) (s .«texture_transforms») 16 8 (v .texture-length) (g .matrices .texture)
 
   pub inputs-agree : inputsOf s ≡ abstractInputs a
   unfolding abstractInputs
   inputs-agree =
       let palette = palette-agrees in
+      let textures = textures-agree in
       let lights = active-agrees v g in
-      λ i. record { view = g .matrices .view i; projection = g .matrices .projection i; palette = palette i; material = g .material i; lights = lights i; textureMask = 0 }
+      λ i.
+      record {
+        view = g .matrices .view i;
+        projection = g .matrices .projection i;
+        palette = palette i;
+        material = g .material i;
+        lights = lights i;
+        textures = textures i;
+        textureMask = g .texture-mask i;
+        renderStates = g .states i;
+      }
 
   pub rows-agree : (σ : Section) (k : FfVsKey) → stateRows σ s k ≡ floats (abstractRows σ a k)
   unfolding abstractRows
@@ -59,9 +77,9 @@ module _ {s : FfState} {a : AbstractState} (v : Valid s) (g : Agrees s a) where
   unfolding packSection abstractPack
   packing-agrees σ k dst = ap (λ (i : Inputs). packInputs σ k i dst) inputs-agree
 
--- the abstract state has 256 world matrices
+-- the abstract state has 256 world matrices and 8 of textures
 pub abstract-length : (a : AbstractState) (k : FfVsKey) → k .«vertex_blend_count» < 256 → (σ : Section) → maskAccepted σ k (abstractInputs a) ≡ true
     → length (abstractRows σ a k) ≡ inputRows σ k (abstractInputs a)
 unfolding abstractRows abstractInputs
 abstract-length a k byte σ =
-    rows-length k (abstractInputs a) (record { count = byte; palette = length-matrices (a .matrix) 256 256; textures = refl }) σ
+    rows-length k (abstractInputs a) (record { count = byte; palette = length-matrices (a .matrix) 256 256; textures = length-matrices (a .matrix) 16 8 }) σ

@@ -25,18 +25,21 @@ use Rattle.ff_state.specs.State.{freshState}
 use Rattle.ff_state.specs.Dirty.{dirtied}
 use Rattle.ff_state.specs.Transforms.{slotOf, placed, changeAt, setTransform}
 use Rattle.ff_state.specs.Material.{setMaterial}
+use Rattle.ff_state.specs.RenderStates.{setFogStart, setFogEnd, setFogDensity, setAmbient, setTextureMask}
 use Rattle.ff_state.specs.Slots.{setSlot, defineSlot, enableSlot}
 use Rattle.ff_state.specs.Lights.{setLightAt, flag, setLightEnabledAt}
 use Rattle.ff_state.specs.Active.{lightActiveMask, activeLights}
 use Rattle.ff_state.specs.declared.state.FfState.{FfState}
-use Rattle.sections.specs.declared.sections.Section.the-variants.{Wv, Proj, Material, Lights, Palette}
+use Rattle.sections.specs.declared.sections.Section.the-variants.{Wv, Proj, Material, Lights, Palette, Tt, Fog, Ambient}
 use Rattle.sections.specs.Key.{limitOf}
 use Rattle.sections.specs.declared.key.FfVsKey.{FfVsKey}
-use Rattle.sections.specs.Counts.{places, materialCount, lightCount, paletteMatrices, paletteCount}
+use Rattle.sections.specs.Counts.{places, materialCount, lightCount, paletteMatrices, paletteCount, textureCount}
 use Rattle.rows.specs.Rows.{floats, rowsOf}
-use Rattle.rows.specs.Matrices.{projectionRows, worldViewRows, paletteRows}
+use Rattle.rows.specs.Matrices.{projectionRows, worldViewRows, paletteRows, textureRows}
 use Rattle.rows.specs.Material.{materialRows}
-use Rattle.rows.proofs.Scene.{Bits, world, secondWorld, view, projection, material, projectionBits, worldViewBits, secondBits, materialBits}
+use Rattle.rows.specs.Fog.{fogRow}
+use Rattle.rows.specs.Ambient.{overFull, rgbaOf}
+use Rattle.rows.proofs.Scene.{Bits, world, secondWorld, view, projection, material, projectionBits, worldViewBits, secondBits, materialBits, worldBits, fogBits, p}
 use Rattle.light_rows.specs.Floor.{smallest, floored}
 use Rattle.directions.specs.Direction.{lengthOf, unitDirection}
 use Rattle.light_rows.specs.Cone.{halfCosine, spotScale, coneOf}
@@ -83,3 +86,39 @@ lights-right = refl
 palette-right : packed Palette scene key ≡ flat (worldViewBits ++ secondBits)
 unfolding scene moved packed packSection packInputs packedRows maskAccepted floats paletteCount paletteMatrices paletteRows rowsOf worldViewRows matMul dot transposed column row sumFrom add mul ofInt toBits setTransform changeAt slotOf placed setMaterial setLightAt setLightEnabledAt flag setSlot enableSlot defineSlot dirtied withBit hasBit freshState identity
 palette-right = refl
+
+-- ---- document 02, T-05
+
+-- fog of 2, 3 and 5, a colour, and three texture matrices of which the second's stage is not in the mask
+unfoldable misty : FfState
+misty =
+    let first = setTransform freshState 16 projection .state in
+    let second = setTransform first 17 world .state in
+    let third = setTransform second 18 projection .state in
+    let fogged = setFogDensity (setFogEnd (setFogStart third (p 2)) (p 3)) (p 5) in
+    setTextureMask (setAmbient fogged 0xFF804020) 5
+
+abbrev inMode : ℕ → FfVsKey
+inMode mode =
+    record {
+      «has_rhw» = false;
+      «lighting_enabled» = false;
+      «specular_enable» = false;
+      «vertex_blend_indexed» = false;
+      preview = false;
+      «light_active_mask» = 0;
+      «fog_mode» = mode;
+      «vertex_blend_count» = 0;
+    }
+
+fog-right : (packed Fog misty (inMode 1) ≡ flat fogBits) × (packed Fog misty (inMode 0) ≡ 0 ∷ 0 ∷ 0 ∷ 0 ∷ [])
+unfolding misty packed packSection packInputs packedRows maskAccepted floats fogRow ofInt toBits setTransform changeAt slotOf placed setFogStart setFogEnd setFogDensity setAmbient setTextureMask dirtied freshState identity
+fog-right = (refl, refl)
+
+ambient-right : packed Ambient misty (inMode 0) ≡ 0x3F008081 ∷ 0x3E808081 ∷ 0x3E008081 ∷ 0x3F800000 ∷ []
+unfolding misty packed packSection packInputs packedRows maskAccepted floats rgbaOf overFull div ofInt toBits setTransform changeAt slotOf placed setFogStart setFogEnd setFogDensity setAmbient setTextureMask dirtied freshState identity
+ambient-right = refl
+
+textures-right : packed Tt misty (inMode 0) ≡ flat (projectionBits ++ worldBits ++ projectionBits)
+unfolding misty packed packSection packInputs packedRows maskAccepted floats rowsOf textureRows textureCount places leadingZeros projectionRows transposed column row ofInt toBits setTransform changeAt slotOf placed setFogStart setFogEnd setFogDensity setAmbient setTextureMask dirtied freshState identity
+textures-right = refl

@@ -16,7 +16,7 @@ unfoldable pub matricesFrom : (ℕ → D3DMATRIX) → ℕ → ℕ → List D3DMA
 matricesFrom matrix from zero = []
 matricesFrom matrix from (suc n) = matrix from ∷ matricesFrom matrix (suc from) n
 
--- state numbers: 2 the view, 3 the projection, 256 to 511 the palette
+-- state numbers: 2 the view, 3 the projection, 16 to 23 the texture stages, 256 to 511 the palette
 unfoldable pub abstractInputs : AbstractState → Inputs
 abstractInputs a =
     record {
@@ -25,7 +25,9 @@ abstractInputs a =
       palette = matricesFrom (a .matrix) 256 256;
       material = a .material;
       lights = abstractActive a;
-      textureMask = 0;
+      textures = matricesFrom (a .matrix) 16 8;
+      textureMask = a .textureMask;
+      renderStates = a .renderStates;
     }
 
 -- the rows of a section under a key

@@ -42,11 +42,11 @@ module _ (s : FfState) (k : FfVsKey) (m : List Float) (f : refreshAnswer s k (le
   pub refused-mirror : refreshMirror s k m .floats ≡ m
   refused-mirror = ap (λ (o : RefreshOutcome). o .floats) refused-same
 
--- of a count that is a u8 and 256 world matrices
+-- of a count that is a u8, 256 world matrices and 8 of textures
 module _ (s : FfState) (k : FfVsKey) (m : List Float) (byte : k .«vertex_blend_count» < 256) (palette : length (s .«world_palette») ≡ 256)
-    (is : refreshAnswer s k (length m) ≡ Accepted) where
+    (textures : length (s .«texture_transforms») ≡ 8) (is : refreshAnswer s k (length m) ≡ Accepted) where
   ready : Ready s k
-  ready = record { count = byte; palette = palette; mask = accepted-fits s k (length m) is .mask }
+  ready = record { count = byte; palette = palette; textures = textures; mask = accepted-fits s k (length m) is .mask }
 
   long : length m ≡ 4460
   long = accepted-fits s k (length m) is .long

@@ -9,7 +9,7 @@ use lib.Ieee.{Float}
 use lib.ListN.{length}
 use borrow.Author.Tests.{eq-eqb}
 use Rattle.sections.specs.declared.sections.Section.{Section}
-use Rattle.sections.specs.declared.sections.Section.the-variants.{Wv, Proj, Material, Lights, Palette, Tt}
+use Rattle.sections.specs.declared.sections.Section.the-variants.{Wv, Proj, Material, Lights, Palette, Tt, Fog, Ambient}
 use Rattle.ff_state.specs.declared.state.FfState.{FfState}
 use Rattle.sections.specs.declared.key.FfVsKey.{FfVsKey}
 use Rattle.sections.proofs.Tiles.{fits-mirror}
@@ -23,6 +23,7 @@ use Rattle.refresh.specs.Written.{firstFloat}
 pub record Ready (s : FfState) (k : FfVsKey) : Type 0 where
   pub count : k .«vertex_blend_count» < 256
   pub palette : length (s .«world_palette») ≡ 256
+  pub textures : length (s .«texture_transforms») ≡ 8
   pub mask : maskAccepted Lights k (inputsOf s) ≡ true
 
 module _ {s : FfState} {k : FfVsKey} (r : Ready s k) (σ : Section) where
@@ -37,9 +38,11 @@ module _ {s : FfState} {k : FfVsKey} (r : Ready s k) (σ : Section) where
       go Lights = r .mask
       go Palette = refl
       go Tt = refl
+      go Fog = refl
+      go Ambient = refl
 
   pub rows-length : length (stateRows σ s k) ≡ 4 * stateCount σ s k
-  rows-length = floats-length k (inputsOf s) (record { count = r .count; palette = r .palette; textures = refl }) σ accepted
+  rows-length = floats-length k (inputsOf s) (record { count = r .count; palette = r .palette; textures = r .textures }) σ accepted
 
   pub fits : firstFloat σ + length (stateRows σ s k) ≤ 4460
   fits = omega (arith, rows-length, fits-mirror k (inputsOf s .textureMask) (r .count) σ)

@@ -15,7 +15,7 @@ pub struct Refreshed {
     pub state: FfState,
 }
 
-// Takes the dirty bits and writes each section that they name; of the texture matrices there is no row to write. A refused refresh changes nothing.
+// Takes the dirty bits and writes each section that they name. A refused refresh changes nothing.
 pub fn refresh(s: FfState, key: FfVsKey, mirror: &mut [f32]) -> Refreshed
     ensures { λ r. ⌜ refreshed r (now (mirror .exit)) ≡ refreshMirror s key (now (mirror .entry)) ⌝ }
 {
@@ -35,6 +35,9 @@ pub fn refresh(s: FfState, key: FfVsKey, mirror: &mut [f32]) -> Refreshed
     write_section(Section::Material, bits, s, key, mirror);
     write_section(Section::Lights, bits, s, key, mirror);
     write_section(Section::Palette, bits, s, key, mirror);
+    write_section(Section::Tt, bits, s, key, mirror);
+    write_section(Section::Fog, bits, s, key, mirror);
+    write_section(Section::Ambient, bits, s, key, mirror);
     Refreshed {
         answer: RefreshAnswer::Accepted,
         bits,

@@ -9,7 +9,6 @@ ghost use Rattle.refresh.specs.Written.{writtenSection};
 use ff_state::FfState;
 use packing::pack_section;
 use sections::FfVsKey;
-use sections::NO_TEXTURES;
 use sections::Section;
 use sections::first_row;
 use sections::section_bit;
@@ -30,7 +29,7 @@ pub fn write_section(section: Section, bits: u32, s: FfState, key: FfVsKey, mirr
 {
     if has_section(bits, section) {
         let row = first_row(section);
-        let rows = section_rows(section, key, NO_TEXTURES);
+        let rows = section_rows(section, key, s.tt_active_mask);
         let first = 4 * row as usize;
         let end = first + 4 * rows as usize;
         pack_section(section, s, key, &mut mirror[first..end]);

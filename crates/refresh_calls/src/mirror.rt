@@ -42,6 +42,9 @@ fn refresh_keyed(image: &mut [u8], key: FfVsKey, mirror: &mut [u8], out: &mut u3
             write_section_bytes(Section::Material, bits, s, key, mirror);
             write_section_bytes(Section::Lights, bits, s, key, mirror);
             write_section_bytes(Section::Palette, bits, s, key, mirror);
+            write_section_bytes(Section::Tt, bits, s, key, mirror);
+            write_section_bytes(Section::Fog, bits, s, key, mirror);
+            write_section_bytes(Section::Ambient, bits, s, key, mirror);
             put_state(image, state);
             *out = bits;
             0

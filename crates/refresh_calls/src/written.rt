@@ -10,7 +10,6 @@ use pack_calls::fill_bytes;
 use pack_calls::mirror_floats;
 use refresh::has_section;
 use sections::FfVsKey;
-use sections::NO_TEXTURES;
 use sections::Section;
 use sections::first_row;
 use sections::section_rows;
@@ -22,7 +21,7 @@ pub fn write_section_bytes(section: Section, bits: u32, s: FfState, key: FfVsKey
 {
     if has_section(bits, section) {
         let row = first_row(section);
-        let rows = section_rows(section, key, NO_TEXTURES);
+        let rows = section_rows(section, key, s.tt_active_mask);
         let n = 4 * rows as usize;
         let first = 16 * row as usize;
         let end = first + 4 * n;

@@ -4,6 +4,7 @@ mod lights;
 mod number;
 mod palette;
 mod small;
+mod textures;
 
 pub use lights::lights_due;
 pub use lights::put_lights;
@@ -12,3 +13,5 @@ pub use number::mask_number;
 pub use palette::palette_due;
 pub use palette::put_palette;
 pub use small::write_small;
+pub use textures::put_textures;
+pub use textures::textures_due;

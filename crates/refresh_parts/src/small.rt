@@ -1,15 +1,20 @@
-// The three small sections of a mirror: WV, PROJ and MATERIAL.
+// The small sections of a mirror: WV, PROJ, MATERIAL, FOG and AMBIENT.
 ghost use mathlib.Core.Path.{_≡_};
 ghost use lib.ListN.{length};
-ghost use Rattle.sections.specs.declared.sections.Section.the-variants.{Wv, Proj, Material};
+ghost use Rattle.sections.specs.declared.sections.Section.the-variants.{Wv, Proj, Material, Fog, Ambient};
+ghost use Rattle.rows.specs.Ambient.{ambientRows};
+ghost use Rattle.rows.specs.Fog.{fogRows};
 ghost use Rattle.rows.specs.Material.{materialRows};
 ghost use Rattle.rows.specs.Matrices.{projectionRows, worldViewRows};
 ghost use Rattle.refresh_parts.specs.Parts.{writtenRows, writtenSmall};
 use d3d9_types::D3DMATERIAL9;
 use d3d9_types::D3DMATRIX;
+use d3d9_types::RenderStates;
 use matrix::mat_mul;
 use matrix::transpose;
 use refresh::has_section;
+use rows::write_ambient;
+use rows::write_fog;
 use rows::write_material;
 use rows::write_matrix;
 use sections::FfVsKey;
@@ -49,7 +54,31 @@ fn write_colors(bits: u32, key: FfVsKey, material: D3DMATERIAL9, mirror: &mut [f
     }
 }
 
-// Each of the three that the bits name.
+fn write_fog_row(bits: u32, key: FfVsKey, states: RenderStates, mirror: &mut [f32])
+    requires { ⌜ length (now mirror) ≡ 4460 ⌝ }
+    ensures { λ _. ⌜ now (mirror .exit) ≡ writtenRows Fog bits (fogRows (key .«fog_mode») (states .«fog_start») (states .«fog_end») (states .«fog_density»)) (now (mirror .entry)) ⌝ }
+{
+    if has_section(bits, Section::Fog) {
+        write_fog(
+            &mut mirror[32..36],
+            key.fog_mode,
+            states.fog_start,
+            states.fog_end,
+            states.fog_density,
+        );
+    }
+}
+
+fn write_ambient_row(bits: u32, states: RenderStates, mirror: &mut [f32])
+    requires { ⌜ length (now mirror) ≡ 4460 ⌝ }
+    ensures { λ _. ⌜ now (mirror .exit) ≡ writtenRows Ambient bits (ambientRows (states .ambient)) (now (mirror .entry)) ⌝ }
+{
+    if has_section(bits, Section::Ambient) {
+        write_ambient(&mut mirror[36..40], states.ambient);
+    }
+}
+
+// Each of the five that the bits name.
 pub fn write_small(
     bits: u32,
     key: FfVsKey,
@@ -57,12 +86,15 @@ pub fn write_small(
     world: D3DMATRIX,
     projection: D3DMATRIX,
     material: D3DMATERIAL9,
+    states: RenderStates,
     mirror: &mut [f32],
 )
     requires { ⌜ length (now mirror) ≡ 4460 ⌝ }
-    ensures { λ _. ⌜ now (mirror .exit) ≡ writtenSmall bits key view world projection material (now (mirror .entry)) ⌝ }
+    ensures { λ _. ⌜ now (mirror .exit) ≡ writtenSmall bits key view world projection material states (now (mirror .entry)) ⌝ }
 {
     write_wv(bits, view, world, mirror);
     write_proj(bits, projection, mirror);
     write_colors(bits, key, material, mirror);
+    write_fog_row(bits, key, states, mirror);
+    write_ambient_row(bits, states, mirror);
 }

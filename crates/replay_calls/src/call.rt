@@ -39,7 +39,8 @@ fn kind_of(letter: u8, n: usize) -> Kind {
     match letter {
         b'Y' => Kind::PutKey,
         b'J' => Kind::PutMirror,
-        b'O' | b'F' | b'X' | b'P' | b'E' | b'N' | b'D' | b'V' | b'C' | b'K' | b'Q' => Kind::State,
+        b'O' | b'F' | b'X' | b'P' | b'E' | b'N' | b'D' | b'V' | b'C' | b'K' | b'Q' | b'H' =>
+            Kind::State,
         b'S' | b'M' | b'T' | b'W' | b'A' | b'B' | b'L' | b'G' => Kind::Item,
         b'U' => Kind::Fill,
         b'Z' => Kind::Rows,

@@ -44,6 +44,8 @@ fn section_of(bit: u32) -> Named {
         8 => Named::Section(Section::Lights),
         16 => Named::Section(Section::Palette),
         32 => Named::Section(Section::Tt),
+        64 => Named::Section(Section::Fog),
+        128 => Named::Section(Section::Ambient),
         _ => Named::None,
     }
 }

@@ -6,10 +6,10 @@ use crate::reply::wide;
 
 fn lent_call(letter: u8, a: u32, image: &mut [u8], lent: &mut [u8]) -> u32 {
     match letter {
-        b'S' => calls::set_transform(image, a, lent),
-        b'M' => calls::multiply_transform(image, a, lent),
-        b'T' => calls::transform(image, a, lent),
-        b'W' => calls::world_view_projection(image, lent),
+        b'S' => transform_calls::set_transform(image, a, lent),
+        b'M' => transform_calls::multiply_transform(image, a, lent),
+        b'T' => transform_calls::transform(image, a, lent),
+        b'W' => transform_calls::world_view_projection(image, lent),
         b'A' => calls::set_material(image, lent),
         b'B' => calls::material(image, lent),
         b'L' => light_calls::set_light_at(image, a, lent),

@@ -24,7 +24,7 @@ fn whole_call(letter: u8, len: u32, image: &mut [u8]) -> Reply {
 
 fn number_code(letter: u8, a: u32, b: u32, image: &mut [u8], number: &mut u32) -> u32 {
     match letter {
-        b'P' => calls::world_palette_used(image, number),
+        b'P' => transform_calls::world_palette_used(image, number),
         b'E' => light_calls::set_light_enabled_at(image, a, b),
         b'N' => light_calls::is_light_enabled_at(image, a, number),
         b'D' => light_calls::is_light_defined_at(image, a, number),
@@ -42,10 +42,29 @@ fn number_call(letter: u8, a: u32, b: u32, image: &mut [u8]) -> Reply {
     reply_of(code, number)
 }
 
+fn field_code(field: u32, w: u32, image: &mut [u8]) -> u32 {
+    match field {
+        0 => calls::set_fog_start(image, w),
+        1 => calls::set_fog_end(image, w),
+        2 => calls::set_fog_density(image, w),
+        3 => calls::set_ambient(image, w),
+        _ => calls::set_texture_mask(image, (w % 256) as u8),
+    }
+}
+
+// One of the five values at the image's end, by its place there.
+fn field_call(field: u32, w: u32, image: &mut [u8]) -> Reply {
+    if 4 < field {
+        return Reply::Bad;
+    }
+    reply_of(field_code(field, w, image), 0)
+}
+
 pub fn state_call(letter: u8, a: u32, b: u32, image: &mut [u8]) -> Reply {
     match letter {
         b'O' => put_image(a, b, image),
         b'F' | b'X' => whole_call(letter, b, image),
+        b'H' => field_call(a, b, image),
         _ => number_call(letter, a, b, image),
     }
 }

@@ -2,9 +2,11 @@
 use Prim.Native.Nat.{ℕ, zero, suc}
 use mathlib.Core.Bool.{Bool, true, false}
 use mathlib.Core.List.{List, [], _∷_, _++_}
-use lib.Ieee.{binary32, nan}
-use lib.Ieee.Fits.{nan-fits}
-use lib.ListN.{getD}
+use lib.Ieee.{Float, binary32, nan}
+use lib.Ieee.Fits.{nan-fits, div-fits}
+use lib.Dec.{eqb}
+use lib.ListN.{getD, take}
+use Rattle.lemmas.proofs.Branch.{branch}
 use Rattle.d3d9_types.proofs.Fits.{zero-fits, colorRow-fits}
 use Rattle.d3d9_types.specs.Numbers.{floatFits}
 use Rattle.d3d9_types.specs.Matrix.{rowFits, matrixFits}
@@ -13,9 +15,12 @@ use Rattle.d3d9_types.specs.declared.matrix.Row.{Row}
 use Rattle.d3d9_types.specs.declared.matrix.D3DMATRIX.{D3DMATRIX}
 use Rattle.d3d9_types.specs.declared.material.D3DMATERIAL9.{D3DMATERIAL9}
 use Rattle.matrix.proofs.Fits.{matMul-fits, transposed-fits}
+use Rattle.sections.specs.Counts.{places}
 use Rattle.rows.specs.Rows.{floats, rowsOf}
-use Rattle.rows.specs.Matrices.{matrixRows, projectionRows, worldViewRows, paletteRows}
+use Rattle.rows.specs.Matrices.{matrixRows, projectionRows, worldViewRows, paletteRows, textureRows}
 use Rattle.rows.specs.Material.{materialRows}
+use Rattle.rows.specs.Fog.{fogRow, fogRows}
+use Rattle.rows.specs.Ambient.{overFull, rgbaOf, ambientRows}
 
 -- a property of every element
 abbrev pub Each : {A : Type 0} → (A → Type 0) → List A → Type 0
@@ -60,6 +65,25 @@ any (m ∷ ms) = (tt, any ms)
 pub palette-fits : (view : D3DMATRIX) (worlds : List D3DMATRIX) → Each rowFits (paletteRows view worlds)
 unfolding paletteRows
 palette-fits view worlds = each-rowsOf (λ m. Unit {0}) (worldViewRows view) (λ m h. world-view-fits view m) worlds (any worlds)
+
+pub textures-fit : (mask : ℕ) (textures : List D3DMATRIX) → Each matrixFits (take (places mask) textures) → Each rowFits (textureRows mask textures)
+unfolding textureRows
+textures-fit mask textures h = each-rowsOf matrixFits projectionRows (λ m. projection-fits) (take (places mask) textures) h
+
+pub fog-fits : (mode : ℕ) (start end density : Float) → floatFits start → floatFits end → floatFits density → Each rowFits (fogRows mode start end density)
+unfolding fogRow
+fog-fits mode start end density s e d = (
+  branch rowFits (eqb mode 0) _ _
+      (λ off. record { x = zero-fits; y = zero-fits; z = zero-fits; w = zero-fits })
+      (λ on. record { x = s; y = e; z = d; w = zero-fits }),
+  tt,
+)
+
+-- a quotient is rounded
+pub ambient-fits : (color : ℕ) → Each rowFits (ambientRows color)
+unfolding rgbaOf overFull
+ambient-fits color =
+    (record { x = div-fits binary32 _ _; y = div-fits binary32 _ _; z = div-fits binary32 _ _; w = div-fits binary32 _ _ }, tt)
 
 pub material-fits : (l sp : Bool) {m : D3DMATERIAL9} → materialFits m → Each rowFits (materialRows l sp m)
 unfolding materialRows

@@ -4,8 +4,9 @@ use Prim.Native.Nat.{ℕ}
 use mathlib.Core.Path.{_≡_, refl}
 use mathlib.Core.Bool.{true}
 use mathlib.Core.List.{List, [], _∷_, _++_, map}
+use lib.Count.{leadingZeros}
 use lib.IntN.{pos}
-use lib.Ieee.{Float, binary32, ofInt, toBits, add, mul}
+use lib.Ieee.{Float, binary32, ofInt, toBits, add, mul, div}
 use Rattle.d3d9_types.specs.declared.color.D3DCOLORVALUE.{D3DCOLORVALUE}
 use Rattle.d3d9_types.specs.declared.matrix.Row.{Row}
 use Rattle.d3d9_types.specs.declared.matrix.D3DMATRIX.{D3DMATRIX}
@@ -14,9 +15,12 @@ use Rattle.matrix.specs.Entry.{column, row}
 use Rattle.matrix.specs.Sum.{sumFrom}
 use Rattle.matrix.specs.Product.{dot, matMul}
 use Rattle.matrix.specs.Transposition.{transposed}
+use Rattle.sections.specs.Counts.{places}
 use Rattle.rows.specs.Rows.{rowsOf}
-use Rattle.rows.specs.Matrices.{projectionRows, worldViewRows, paletteRows}
+use Rattle.rows.specs.Matrices.{projectionRows, worldViewRows, paletteRows, textureRows}
 use Rattle.rows.specs.Material.{materialRows}
+use Rattle.rows.specs.Fog.{fogRow, fogRows}
+use Rattle.rows.specs.Ambient.{overFull, rgbaOf, ambientRows}
 
 -- the bits of a row
 pub record Bits : Type 0 where
@@ -87,6 +91,17 @@ secondBits =
     ∷ bits 0x41000000 0x40800000 0x40A00000 0x41400000
     ∷ []
 
+abbrev pub worldBits : List Bits
+worldBits =
+    bits 0x3F800000 0x40A00000 0x41100000 0x41500000
+    ∷ bits 0x40000000 0x40C00000 0x41200000 0x41600000
+    ∷ bits 0x40400000 0x40E00000 0x41300000 0x41700000
+    ∷ bits 0x40800000 0x41000000 0x41400000 0x41800000
+    ∷ []
+
+abbrev pub fogBits : List Bits
+fogBits = bits 0x40000000 0x40400000 0x40A00000 0x00000000 ∷ []
+
 abbrev pub materialBits : List Bits
 materialBits =
     bits 0x3F800000 0x40000000 0x40400000 0x40800000
@@ -113,3 +128,27 @@ palette-right = refl
 material-right : rowBits (materialRows true true material) ≡ materialBits
 unfolding materialRows ofInt toBits
 material-right = refl
+
+-- ---- document 02, T-05
+
+-- the second stage's bit is clear, and its matrix is packed all the same; the fourth lies beyond the highest bit
+textures-right : rowBits (textureRows 5 (projection ∷ world ∷ projection ∷ view ∷ [])) ≡ projectionBits ++ worldBits ++ projectionBits
+unfolding textureRows places leadingZeros rowsOf projectionRows transposed column row ofInt toBits
+textures-right = refl
+
+no-textures : textureRows 0 (projection ∷ []) ≡ []
+unfolding textureRows places leadingZeros rowsOf
+no-textures = refl
+
+abbrev fogged : ℕ → List Bits
+fogged mode = rowBits (fogRows mode (p 2) (p 3) (p 5))
+
+-- any mode but 0
+fog-right : (fogged 0 ≡ bits 0 0 0 0 ∷ []) × (fogged 1 ≡ fogBits) × (fogged 3 ≡ fogBits) × (fogged 255 ≡ fogBits)
+unfolding fogRow ofInt toBits
+fog-right = (refl, refl, refl, refl)
+
+-- red, green, blue, alpha of 0xAARRGGBB
+ambient-right : rowBits (ambientRows 0xFF804020) ≡ bits 0x3F008081 0x3E808081 0x3E008081 0x3F800000 ∷ []
+unfolding rgbaOf overFull div ofInt toBits
+ambient-right = refl

@@ -1,3 +1,5 @@
 pub mod Rows
 pub mod Matrices
 pub mod Material
+pub mod Fog
+pub mod Ambient

@@ -10,7 +10,7 @@ use lib.ListN.{length, getD, drop}
 use lib.Ieee.Fits.{and-l, and-r}
 use Rattle.sections.specs.Sections.{sections, bitOf, bitPlace}
 use Rattle.sections.specs.declared.sections.Section.{Section}
-use Rattle.sections.specs.declared.sections.Section.the-variants.{Wv, Proj, Material, Lights, Palette, Tt}
+use Rattle.sections.specs.declared.sections.Section.the-variants.{Wv, Proj, Material, Lights, Palette, Tt, Fog, Ambient}
 
 -- a test of every section
 abbrev pub every : (Section → Bool) → List Section → Bool
@@ -30,6 +30,8 @@ listed Material = (refl, omega arith)
 listed Lights = (refl, omega arith)
 listed Palette = (refl, omega arith)
 listed Tt = (refl, omega arith)
+listed Fog = (refl, omega arith)
+listed Ambient = (refl, omega arith)
 
 pub each : (f : Section → Bool) → T (every f sections) → (σ : Section) → T (f σ)
 each f all σ = subst (λ (τ : Section). T (f τ)) (listed σ .0) (at f sections all (bitPlace σ) (listed σ .1))

@@ -9,7 +9,7 @@ use lib.Count.{leadingZeros, leading-le}
 use lib.Dec.{eqb, eqb·suc-zero}
 use borrow.Author.Tests.{ne-eqb}
 use Rattle.sections.specs.declared.sections.Section.{Section}
-use Rattle.sections.specs.declared.sections.Section.the-variants.{Wv, Proj, Material, Lights, Palette, Tt}
+use Rattle.sections.specs.declared.sections.Section.the-variants.{Wv, Proj, Material, Lights, Palette, Tt, Fog, Ambient}
 use Rattle.sections.specs.Counts.{places, materialCount, lightCount, paletteMatrices, paletteCount, textureCount}
 use Rattle.sections.specs.RowCount.{lightingReach, textureReach, paletteReach, ffVsRowCount, readSections, reach, greatestReach}
 use Rattle.sections.specs.declared.key.FfVsKey.{FfVsKey}
@@ -80,26 +80,29 @@ module _ (k : FfVsKey) (t : ℕ) where
   unfolding lightingReach reach lightCount materialCount
   lighting = lit-reach (k .«lighting_enabled») (k .«specular_enable») (k .«light_active_mask»)
 
-  -- the first two sections end before the material's
-  first-two : reaches Wv ≤ reaches Proj
+  -- the first four sections end before the material's
+  first-four : (reaches Wv ≤ reaches Proj) × (reaches Proj ≤ reaches Fog) × (reaches Fog ≤ reaches Ambient)
   unfolding reach
-  first-two = omega arith
+  first-four = (omega arith, omega arith, omega arith)
 
-  second-too : reaches Proj ≤ reaches Material
+  fourth-too : reaches Ambient ≤ reaches Material
   unfolding reach materialCount
-  second-too = omega (arith, colours-reach (k .«lighting_enabled») (k .«specular_enable»))
+  fourth-too = omega (arith, colours-reach (k .«lighting_enabled») (k .«specular_enable»))
 
-  behind : max (reaches Material) (max (reaches Tt) (reaches Palette)) ≡ greatestReach (Wv ∷ Proj ∷ Material ∷ Tt ∷ Palette ∷ []) k t
+  behind : max (reaches Material) (max (reaches Tt) (reaches Palette)) ≡ greatestReach (Wv ∷ Proj ∷ Fog ∷ Ambient ∷ Material ∷ Tt ∷ Palette ∷ []) k t
   unfolding greatestReach
   behind =
       let rest : ℕ = max (reaches Tt) (max (reaches Palette) 0) in
       let last : max (reaches Tt) (reaches Palette) ≡ rest = omega arith in
+      let third : ℕ = max (reaches Ambient) (max (reaches Material) rest) in
       ap (max (reaches Material)) last
-      ∙ absorbed (reaches Proj) (reaches Material) rest second-too
-      ∙ absorbed (reaches Wv) (reaches Proj) (max (reaches Material) rest) first-two
+      ∙ absorbed (reaches Ambient) (reaches Material) rest fourth-too
+      ∙ absorbed (reaches Fog) (reaches Ambient) (max (reaches Material) rest) (first-four .2)
+      ∙ absorbed (reaches Proj) (reaches Fog) third (first-four .1)
+      ∙ absorbed (reaches Wv) (reaches Proj) (max (reaches Fog) third) (first-four .0)
 
   all-read : (l : Bool) → max (max (max (cond l (reaches Lights) 0) (reaches Material)) (reaches Tt)) (reaches Palette)
-      ≡ greatestReach (cond l (Lights ∷ Wv ∷ Proj ∷ Material ∷ Tt ∷ Palette ∷ []) (Wv ∷ Proj ∷ Material ∷ Tt ∷ Palette ∷ [])) k t
+      ≡ greatestReach (cond l (Lights ∷ Wv ∷ Proj ∷ Fog ∷ Ambient ∷ Material ∷ Tt ∷ Palette ∷ []) (Wv ∷ Proj ∷ Fog ∷ Ambient ∷ Material ∷ Tt ∷ Palette ∷ [])) k t
   unfolding greatestReach
   all-read true = regroup (reaches Lights) (reaches Material) (reaches Tt) (reaches Palette) ∙ ap (max (reaches Lights)) behind
   all-read false = regroup 0 (reaches Material) (reaches Tt) (reaches Palette) ∙ sym (absorbed 0 (reaches Material) _ zero-le) ∙ behind

@@ -1,4 +1,4 @@
--- A key's shape leaves HAS_RHW and `fog_mode` free and decides how many lights are packed, which are as many as the mask that the key can name.
+-- A key's shape leaves HAS_RHW alone free and decides how many lights are packed, which are as many as the mask that the key can name.
 -- Assumes nothing.
 use Prim.Native.Nat.{ℕ, _≤_}
 use native.Mathlib.Omega.{arith}
@@ -9,8 +9,8 @@ use Rattle.sections.specs.Counts.{places}
 use Rattle.sections.specs.Key.{SameShape, limitOf, lightLimit}
 use Rattle.sections.specs.declared.key.FfVsKey.{FfVsKey}
 
--- "Shape fields: all except HAS_RHW and `fog_mode`"
-pub free-fields : (k : FfVsKey) (rhw : Bool) (fog : ℕ)
+-- "Shape fields: all except HAS_RHW and `fog_mode`"; "`fog_mode` becomes a shape field": HAS_RHW alone is free
+pub free-field : (k : FfVsKey) (rhw : Bool)
     → SameShape k (record {
       «has_rhw» = rhw;
       «lighting_enabled» = k .«lighting_enabled»;
@@ -18,11 +18,25 @@ pub free-fields : (k : FfVsKey) (rhw : Bool) (fog : ℕ)
       «vertex_blend_indexed» = k .«vertex_blend_indexed»;
       preview = k .preview;
       «light_active_mask» = k .«light_active_mask»;
-      «fog_mode» = fog;
+      «fog_mode» = k .«fog_mode»;
       «vertex_blend_count» = k .«vertex_blend_count»;
     })
-free-fields k rhw fog =
-    record { lighting-enabled = refl; specular-enable = refl; vertex-blend-indexed = refl; preview = refl; light-active-mask = refl; vertex-blend-count = refl }
+free-field k rhw =
+    record { lighting-enabled = refl; specular-enable = refl; vertex-blend-indexed = refl; preview = refl; light-active-mask = refl; fog-mode = refl; vertex-blend-count = refl }
+
+-- .. and every other field is one of the shape
+pub no-other-free : (k l : FfVsKey) → SameShape k l → k .«has_rhw» ≡ l .«has_rhw» → k ≡ l
+no-other-free k l e r = λ i.
+    record {
+      «has_rhw» = r i;
+      «lighting_enabled» = e .lighting-enabled i;
+      «specular_enable» = e .specular-enable i;
+      «vertex_blend_indexed» = e .vertex-blend-indexed i;
+      preview = e .preview i;
+      «light_active_mask» = e .light-active-mask i;
+      «fog_mode» = e .fog-mode i;
+      «vertex_blend_count» = e .vertex-blend-count i;
+    }
 
 -- "The limit joins the shape fields"
 pub shape-limit : {k l : FfVsKey} → SameShape k l → lightLimit k ≡ lightLimit l

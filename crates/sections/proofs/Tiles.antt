@@ -7,7 +7,7 @@ use lib.Dec.{T, eqb, ltb, leb, leb→le, eqb→eq}
 use borrow.Author.Tests.{lt-ltb, eq-eqb}
 use Rattle.sections.specs.Sections.{sections, bitPlace, firstRow}
 use Rattle.sections.specs.declared.sections.Section.{Section}
-use Rattle.sections.specs.declared.sections.Section.the-variants.{Wv, Proj, Material, Lights, Palette, Tt}
+use Rattle.sections.specs.declared.sections.Section.the-variants.{Wv, Proj, Material, Lights, Palette, Tt, Fog, Ambient}
 use Rattle.sections.specs.Counts.{sectionRows}
 use Rattle.sections.specs.declared.key.FfVsKey.{FfVsKey}
 use Rattle.sections.proofs.Every.{every, each, same-place}
@@ -17,6 +17,8 @@ use Rattle.sections.proofs.Bounds.{material-most, lights-most, palette-
 abbrev end : Section → ℕ
 end Wv = 4
 end Proj = 8
+end Fog = 9
+end Ambient = 10
 end Material = 15
 end Lights = 63
 end Tt = 95
@@ -29,6 +31,8 @@ module _ (k : FfVsKey) (t : ℕ) (byte : k .«vertex_blend_count» < 256) where
   ends : (σ : Section) → firstRow σ + sectionRows σ k t ≤ end σ
   ends Wv = omega arith
   ends Proj = omega arith
+  ends Fog = omega arith
+  ends Ambient = omega arith
   ends Material = omega (arith, material-most k)
   ends Lights = omega (arith, lights-most k)
   ends Tt = omega (arith, texture-most t)

@@ -1,11 +1,11 @@
--- Rows of each section under a key. Document 01, 'Rows of a section'; ff_state.rs 451–468, 1957–1998.
+-- Rows of each section under a key. Document 01, 'Rows of a section'; ff_state.rs 451–468, 1957–1998. Document 02, T-05.
 use Prim.Native.Nat.{ℕ, _-_, _*_}
 use mathlib.Core.Bool.{cond}
 use lib.Count.{leadingZeros}
 use lib.Dec.{eqb}
 use Rattle.sections.specs.declared.key.FfVsKey.{FfVsKey}
 use Rattle.sections.specs.declared.sections.Section.{Section}
-use Rattle.sections.specs.declared.sections.Section.the-variants.{Wv, Proj, Material, Lights, Palette, Tt}
+use Rattle.sections.specs.declared.sections.Section.the-variants.{Wv, Proj, Material, Lights, Palette, Tt, Fog, Ambient}
 
 -- "8 minus the mask's leading zeros"
 unfoldable pub places : ℕ → ℕ
@@ -36,3 +36,5 @@ sectionRows Material k t = materialCount k
 sectionRows Lights k t = lightCount k
 sectionRows Palette k t = paletteCount k
 sectionRows Tt k t = textureCount t
+sectionRows Fog k t = 1
+sectionRows Ambient k t = 1

@@ -1,4 +1,4 @@
--- Keys. Document 01, 'A refresh, from the top': "Shape fields: all except HAS_RHW and `fog_mode`." Document 02, T-01: "The limit joins the shape fields".
+-- Keys. Document 01, 'A refresh, from the top': "Shape fields: all except HAS_RHW and `fog_mode`." Document 02, T-01: "The limit joins the shape fields"; T-05: "`fog_mode` becomes a shape field".
 use Prim.Native.Nat.{ℕ}
 use mathlib.Core.Path.{_≡_}
 use mathlib.Core.Bool.{Bool, true, false}
@@ -10,6 +10,7 @@ pub record SameShape (k l : FfVsKey) : Type 0 where
   pub vertex-blend-indexed : k .«vertex_blend_indexed» ≡ l .«vertex_blend_indexed»
   pub preview : k .preview ≡ l .preview
   pub light-active-mask : k .«light_active_mask» ≡ l .«light_active_mask»
+  pub fog-mode : k .«fog_mode» ≡ l .«fog_mode»
   pub vertex-blend-count : k .«vertex_blend_count» ≡ l .«vertex_blend_count»
 
 -- Document 02, T-01: "The preview pane draws the same scene with at most four lights, while the main screen stays at eight."

@@ -4,7 +4,7 @@ use mathlib.Core.Bool.{cond}
 use mathlib.Core.List.{List, [], _∷_}
 use lib.Dec.{eqb}
 use Rattle.sections.specs.declared.sections.Section.{Section}
-use Rattle.sections.specs.declared.sections.Section.the-variants.{Wv, Proj, Material, Lights, Palette, Tt}
+use Rattle.sections.specs.declared.sections.Section.the-variants.{Wv, Proj, Material, Lights, Palette, Tt, Fog, Ambient}
 use Rattle.sections.specs.Counts.{lightCount, paletteCount, textureCount, sectionRows}
 use Rattle.sections.specs.Sections.{firstRow}
 use Rattle.sections.specs.declared.key.FfVsKey.{FfVsKey}
@@ -27,10 +27,10 @@ ffVsRowCount k t = cond (k .«has_rhw») 1 (max (max (lightingReach k) (textureR
 
 -- ---- the same by the table
 
--- the sections that a draw without HAS_RHW reads: the lights' only when lit
+-- the sections that a draw without HAS_RHW reads: the lights' only when lit. The rows of fog and ambient lie before the material's: whether a draw reads them makes no difference
 unfoldable pub readSections : FfVsKey → List Section
 readSections k =
-    let others = Wv ∷ Proj ∷ Material ∷ Tt ∷ Palette ∷ [] in
+    let others = Wv ∷ Proj ∷ Fog ∷ Ambient ∷ Material ∷ Tt ∷ Palette ∷ [] in
     cond (k .«lighting_enabled») (Lights ∷ others) others
 
 -- the row behind a section's last, 0 where it has none

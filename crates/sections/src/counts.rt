@@ -6,7 +6,7 @@ use crate::key::FfVsKey;
 use crate::sections::Section;
 
 // The places of a mask up to its highest bit.
-fn places(mask: u8) -> u16
+pub fn places(mask: u8) -> u16
     ensures { λ r. ⌜ r ≡ Counts.places mask ⌝ }
 {
     (8 - u8::leading_zeros(mask)) as u16
@@ -68,6 +68,18 @@ pub fn tt_section_rows(texture_mask: u8) -> u16
     places(texture_mask) * 4
 }
 
+pub fn fog_section_rows() -> u16
+    ensures { λ r. ⌜ r ≡ 1 ⌝ }
+{
+    1
+}
+
+pub fn ambient_section_rows() -> u16
+    ensures { λ r. ⌜ r ≡ 1 ⌝ }
+{
+    1
+}
+
 // The rows of a section by its name.
 pub fn section_rows(section: Section, key: FfVsKey, texture_mask: u8) -> u16
     ensures { λ r. ⌜ r ≡ sectionRows section key «texture_mask» ⌝ }
@@ -79,5 +91,7 @@ pub fn section_rows(section: Section, key: FfVsKey, texture_mask: u8) -> u16
         Section::Lights => lights_section_rows(key),
         Section::Palette => palette_section_rows(key),
         Section::Tt => tt_section_rows(texture_mask),
+        Section::Fog => fog_section_rows(),
+        Section::Ambient => ambient_section_rows(),
     }
 }

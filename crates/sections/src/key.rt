@@ -15,9 +15,6 @@ pub struct FfVsKey {
     pub vertex_blend_count: u8,
 }
 
-// The mask of texture stages that are transformed: none, as texture stage states are left out.
-pub const NO_TEXTURES: u8 = 0;
-
 // How many of the active lights are packed under the key, at most.
 pub fn light_limit(key: FfVsKey) -> usize
     ensures { λ r. ⌜ r ≡ lightLimit key ⌝ }

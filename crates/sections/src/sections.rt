@@ -9,6 +9,8 @@ pub enum Section {
     Lights,
     Palette,
     Tt,
+    Fog,
+    Ambient,
 }
 
 pub const WV: u8 = 1;
@@ -23,7 +25,11 @@ pub const PALETTE: u8 = 16;
 
 pub const TT: u8 = 32;
 
-pub const ALL: u8 = WV + PROJ + MATERIAL + LIGHTS + PALETTE + TT;
+pub const FOG: u8 = 64;
+
+pub const AMBIENT: u8 = 128;
+
+pub const ALL: u8 = WV + PROJ + MATERIAL + LIGHTS + PALETTE + TT + FOG + AMBIENT;
 
 pub fn section_bit(section: Section) -> u8
     ensures { λ r. ⌜ r ≡ bitOf section ⌝ }
@@ -35,6 +41,8 @@ pub fn section_bit(section: Section) -> u8
         Section::Lights => LIGHTS,
         Section::Palette => PALETTE,
         Section::Tt => TT,
+        Section::Fog => FOG,
+        Section::Ambient => AMBIENT,
     }
 }
 
@@ -48,5 +56,7 @@ pub fn first_row(section: Section) -> u16
         Section::Lights => 15,
         Section::Palette => 95,
         Section::Tt => 63,
+        Section::Fog => 8,
+        Section::Ambient => 9,
     }
 }

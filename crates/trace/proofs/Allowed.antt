@@ -1,4 +1,4 @@
--- What the claim is over: every call with arguments of its types may stand in a list, a refused refresh with any slice; the first refresh, the next one under the same shape, and after a marking of the five sections one under every key need no more.
+-- What the claim is over: every call with arguments of its types may stand in a list, a refused refresh with any slice; the first refresh, the next one under the same shape, and after a marking of the eight sections one under every key need no more.
 -- Assumes nothing.
 use Prim.Native.Nat.{ℕ, _<_}
 use mathlib.Core.Path.{_≡_, refl, sym, subst, _∙_}
@@ -12,6 +12,7 @@ use borrow.Author.Tests.{eq-eqb, ne-eqb}
 use Rattle.lemmas.proofs.Options.{some-is, not-some}
 use Rattle.lemmas.proofs.Tests.{and-false}
 use Rattle.codec.specs.Little.{Bytes}
+use Rattle.d3d9_types.specs.Numbers.{floatFits}
 use Rattle.d3d9_types.specs.Matrix.{matrixFits}
 use Rattle.d3d9_types.specs.Material.{materialFits}
 use Rattle.d3d9_types.specs.Light.{lightFits}
@@ -20,12 +21,13 @@ use Rattle.d3d9_types.specs.declared.material.D3DMATERIAL9.{D3DMATERIAL9}
 use Rattle.d3d9_types.specs.declared.light.D3DLIGHT9.{D3DLIGHT9}
 use Rattle.words.specs.Bits.{hasBit}
 use Rattle.sections.specs.declared.sections.Section.{Section}
-use Rattle.sections.specs.declared.sections.Section.the-variants.{Wv, Proj, Material, Lights, Palette, Tt}
+use Rattle.sections.specs.Sections.{allBits}
+use Rattle.sections.proofs.Every.{same-sections}
 use Rattle.image_reasons.specs.Reasons.{refused}
 use Rattle.sections.specs.Key.{SameShape}
 use Rattle.sections.specs.declared.key.FfVsKey.{FfVsKey}
 use Rattle.d3d9_model.specs.State.{AbstractState}
-use Rattle.d3d9_model.specs.Operations.{setTransform, multiplyTransform, setMaterial, setLight, enableLight, mark, abstractRefusal}
+use Rattle.d3d9_model.specs.Operations.{setTransform, multiplyTransform, setMaterial, setLight, enableLight, setFogStart, setFogEnd, setFogDensity, setAmbient, setTextureMask, mark, abstractRefusal}
 use Rattle.d3d9_model.specs.Marks.{marksSection}
 use Rattle.refresh_calls.specs.Written.{mirrorFloats}
 use Rattle.trace.specs.Calls.{theMirror, another, slice, HostCall, operates, refreshes, Call, own, readIn, refresh, overwrite, host, hostOn}
@@ -33,7 +35,7 @@ use Rattle.call_laws.specs.HostOperations.{isWhole, said, operationOf}
 use Rattle.trace.specs.Calls as Calls
 use Rattle.trace.specs.World.{World, Track, trackMarked, freshTrack, start, standing, operated, operatedIf, marks}
 use Rattle.trace.specs.Step.{Refresher, refreshRefusal, accepts, hostKey, acceptedKey, hostStep, step}
-use Rattle.trace.specs.Claim.{KeyFits, OfFive, ofMirror, hostMirror, lentMirror, Keeps, Admits}
+use Rattle.trace.specs.Claim.{KeyFits, ofMirror, hostMirror, lentMirror, Keeps, Admits}
 use Rattle.trace.proofs.Tracked.{Marked}
 
 -- a call that is no accepted refresh and lends no mirror
@@ -68,6 +70,26 @@ module _ (w : World) where
   pub enable-light-may : (i : ℕ) (on : Bool) → i < 0x1_0000_0000 → Admits w (own (enableLight i on))
   unfolding acceptedKey lentMirror
   enable-light-may i on u = (u, free refl refl)
+
+  pub set-fog-start-may : (x : Float) → floatFits x → Admits w (own (setFogStart x))
+  unfolding acceptedKey lentMirror
+  set-fog-start-may x f = (f, free refl refl)
+
+  pub set-fog-end-may : (x : Float) → floatFits x → Admits w (own (setFogEnd x))
+  unfolding acceptedKey lentMirror
+  set-fog-end-may x f = (f, free refl refl)
+
+  pub set-fog-density-may : (x : Float) → floatFits x → Admits w (own (setFogDensity x))
+  unfolding acceptedKey lentMirror
+  set-fog-density-may x f = (f, free refl refl)
+
+  pub set-ambient-may : (c : ℕ) → c < 0x1_0000_0000 → Admits w (own (setAmbient c))
+  unfolding acceptedKey lentMirror
+  set-ambient-may c u = (u, free refl refl)
+
+  pub set-texture-mask-may : (t : ℕ) → t < 256 → Admits w (own (setTextureMask t))
+  unfolding acceptedKey lentMirror
+  set-texture-mask-may t u = (u, free refl refl)
 
   pub mark-may : (bits : ℕ) → Admits w (own (mark bits))
   unfolding acceptedKey lentMirror
@@ -104,6 +126,26 @@ module _ (w : World) where
   pub host-enable-light-may : (i on : ℕ) → i < 0x1_0000_0000 → Admits w (host (operates (enableLight i on)))
   unfolding acceptedKey hostKey lentMirror hostMirror
   host-enable-light-may i on u = (u, free refl refl)
+
+  pub host-set-fog-start-may : (bits : ℕ) → bits < 0x1_0000_0000 → Admits w (host (operates (setFogStart bits)))
+  unfolding acceptedKey hostKey lentMirror hostMirror
+  host-set-fog-start-may bits u = (u, free refl refl)
+
+  pub host-set-fog-end-may : (bits : ℕ) → bits < 0x1_0000_0000 → Admits w (host (operates (setFogEnd bits)))
+  unfolding acceptedKey hostKey lentMirror hostMirror
+  host-set-fog-end-may bits u = (u, free refl refl)
+
+  pub host-set-fog-density-may : (bits : ℕ) → bits < 0x1_0000_0000 → Admits w (host (operates (setFogDensity bits)))
+  unfolding acceptedKey hostKey lentMirror hostMirror
+  host-set-fog-density-may bits u = (u, free refl refl)
+
+  pub host-set-ambient-may : (c : ℕ) → c < 0x1_0000_0000 → Admits w (host (operates (setAmbient c)))
+  unfolding acceptedKey hostKey lentMirror hostMirror
+  host-set-ambient-may c u = (u, free refl refl)
+
+  pub host-set-texture-mask-may : (t : ℕ) → t < 256 → Admits w (host (operates (setTextureMask t)))
+  unfolding acceptedKey hostKey lentMirror hostMirror
+  host-set-texture-mask-may t u = (u, free refl refl)
 
   pub host-mark-may : (bits : ℕ) → Admits w (host (operates (mark bits)))
   unfolding acceptedKey hostKey lentMirror hostMirror
@@ -177,41 +219,32 @@ module _ (w : World) (k : FfVsKey) (mask : k .«light_active_mask» < 256) (fog 
 -- nothing need be marked before the first refresh, nor under the shape of the last one
 pub first-marked : (m : List Float) (k : FfVsKey) → Marked (start m .track) k
 unfolding start freshTrack
-first-marked m k = record { shape = λ j q. not-some q; image = λ σ f. refl }
+first-marked m k = record { shape = λ j q. not-some q; image = λ σ. refl }
 
-pub again-marked : (t : Track) (j k : FfVsKey) → t .lastKey ≡ some j → SameShape j k → ((σ : Section) → OfFive σ → t .needsMarking σ ≡ false) → Marked t k
+pub again-marked : (t : Track) (j k : FfVsKey) → t .lastKey ≡ some j → SameShape j k → ((σ : Section) → t .needsMarking σ ≡ false) → Marked t k
 again-marked t j k last same ends = record { shape = λ i q n. absurd (n (subst (λ (x : FfVsKey). SameShape x k) (some-is (sym last ∙ q)) same)); image = ends }
 
--- the bits of the five
-abbrev pub fiveBits : ℕ
-fiveBits = 31
-
--- and whatever needed marking, none after the five are marked, by value or by the host
-pub marks-five : (a : AbstractState) (σ : Section) → OfFive σ → marks a (mark fiveBits) σ ≡ true
+-- and whatever needed marking, none after all are marked, by value or by the host
+pub marks-all : (a : AbstractState) (σ : Section) → marks a (mark allBits) σ ≡ true
 unfolding marks abstractRefusal marksSection hasBit
-marks-five a Wv f = refl
-marks-five a Proj f = refl
-marks-five a Material f = refl
-marks-five a Lights f = refl
-marks-five a Palette f = refl
-marks-five a Tt f = absurd f
+marks-all a = same-sections (marks a (mark allBits)) (λ σ. true) refl
 
 module _ (R : Refresher) (w : World) (k : FfVsKey) where
-  five-marked : Marked (trackMarked (marks (w .abstract) (mark fiveBits)) (w .track)) k
+  all-marked : Marked (trackMarked (marks (w .abstract) (mark allBits)) (w .track)) k
   unfolding trackMarked
-  five-marked =
+  all-marked =
       record {
-        shape = λ j q n σ f. rw (marks-five (w .abstract) σ f) (or-true (w .track .marked σ));
-        image = λ σ f. rw (marks-five (w .abstract) σ f) (and-false (w .track .needsMarking σ));
+        shape = λ j q n σ. rw (marks-all (w .abstract) σ) (or-true (w .track .marked σ));
+        image = λ σ. rw (marks-all (w .abstract) σ) (and-false (w .track .needsMarking σ));
       }
 
-  pub own-marked : Marked (step R (own (mark fiveBits)) w .track) k
+  pub own-marked : Marked (step R (own (mark allBits)) w .track) k
   unfolding step standing operated
-  own-marked = five-marked
+  own-marked = all-marked
 
-  pub host-marked : Marked (step R (host (operates (mark fiveBits))) w .track) k
+  pub host-marked : Marked (step R (host (operates (mark allBits))) w .track) k
   unfolding step hostStep standing operationOf isWhole said operatedIf operated
-  host-marked = five-marked
+  host-marked = all-marked
 
 -- ---- which refreshes are accepted: the claim speaks of each that document 01's rule accepts, by value, by the host, and on another image
 

@@ -103,7 +103,7 @@ accepts-same : (a : AbstractState) (j k : FfVsKey) (whole : Bool) → accepts a 
 accepts-same a j k whole e = ⊎-elim (λ y. some-is (sym (y .1) ∙ e)) (λ n. not-some (sym (n .1) ∙ e)) (accepts-is a j whole)
 
 ready-for : {w : World} {s : FfState} → Invariant w s → (k : FfVsKey) → KeyFits k → (n : ℕ) → refreshAnswer s k n ≡ Accepted → Ready s k
-ready-for {s = s} inv k fit n e = record { count = fit .count; palette = inv .valid .palette-length; mask = accepted-fits s k n e .mask }
+ready-for {s = s} inv k fit n e = record { count = fit .count; palette = inv .valid .palette-length; textures = inv .valid .texture-length; mask = accepted-fits s k n e .mask }
 
 module _ {w : World} {s : FfState} (inv : Invariant w s) (k : FfVsKey) (fit : KeyFits k) (lent : List Float) where
   value-leaves : Leaves s k (accepts (w .abstract) k (eqb (length lent) 4460)) lent (refreshMirror s k lent .floats) (value (refreshMirror s k lent .result .state))
@@ -117,7 +117,7 @@ module _ {w : World} {s : FfState} (inv : Invariant w s) (k : FfVsKey) (fit : Ke
           → Leaves s k (accepts (w .abstract) k (eqb (length lent) 4460)) lent (refreshMirror s k lent .floats) (value (refreshMirror s k lent .result .state))
       yes y =
           let taken = number-accepted (refreshAnswer s k (length lent)) (number ∙ y .0) in
-          let is = Laws.accepted-is s k lent (fit .count) (inv .valid .palette-length) taken in
+          let is = Laws.accepted-is s k lent (fit .count) (inv .valid .palette-length) (inv .valid .texture-length) taken in
           writes (y .1) (ready-for inv k fit (length lent) taken) (ap (λ (o : RefreshOutcome). o .floats) is) (ap (λ (o : RefreshOutcome). o .result .state) is)
 
       no : (refreshRefusal (w .abstract) k (eqb (length lent) 4460) ≡ 0 → ⊥) × (accepts (w .abstract) k (eqb (length lent) 4460) ≡ none)

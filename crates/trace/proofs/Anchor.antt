@@ -25,6 +25,11 @@ use Rattle.ff_state.proofs.state.FfState.new.Reads as new-reads
 use Rattle.ff_state.proofs.state.FfState.set_transform.Reads as set-transform-reads
 use Rattle.ff_state.proofs.state.FfState.multiply_transform.Reads as multiply-transform-reads
 use Rattle.ff_state.proofs.state.FfState.set_material.Reads as set-material-reads
+use Rattle.ff_state.proofs.state.FfState.set_fog_start.Reads as set-fog-start-reads
+use Rattle.ff_state.proofs.state.FfState.set_fog_end.Reads as set-fog-end-reads
+use Rattle.ff_state.proofs.state.FfState.set_fog_density.Reads as set-fog-density-reads
+use Rattle.ff_state.proofs.state.FfState.set_ambient.Reads as set-ambient-reads
+use Rattle.ff_state.proofs.state.FfState.set_texture_mask.Reads as set-texture-mask-reads
 use Rattle.ff_state.proofs.state.FfState.mark_ff_vs_dirty.Reads as mark-reads
 use Rattle.ff_lights.proofs.set_light_at.Reads as set-light-reads
 use Rattle.ff_lights.proofs.set_light_enabled_at.Reads as enable-light-reads
@@ -38,7 +43,7 @@ use Rattle.image.proofs.read_image.Kinds as read-image-kinds
 use Rattle.image.proofs.read_image.Reads as read-image-reads
 use Rattle.image.proofs.write_image.Kinds as write-image-kinds
 use Rattle.image.proofs.write_image.Reads as write-image-reads
-use Rattle.d3d9_model.specs.Operations.{setTransform, multiplyTransform, setMaterial, setLight, enableLight, mark}
+use Rattle.d3d9_model.specs.Operations.{setTransform, multiplyTransform, setMaterial, setLight, enableLight, setFogStart, setFogEnd, setFogDensity, setAmbient, setTextureMask, mark}
 use Rattle.ff_state.specs.Operate.{Operated, operate}
 use Rattle.refresh.specs.Mirror.{refreshed}
 use Rattle.refresh.specs.declared.mirror.Refreshed.{Refreshed}
@@ -76,6 +81,26 @@ set-light-anchored s i l = (tt, λ r h. ap (λ (c : LightChanged). operated (lig
 pub enable-light-anchored : (s : FfState) (i : ℕ) (on : Bool) → enable-light-reads.Asked tt (s, (i, (on, tt))) × ((r : LightChanged) → enable-light-reads.Learnt tt (s, (i, (on, tt))) r (s, (i, (on, tt))) → operated (lightNumber (r .answer)) (r .state) ≡ operate s (enableLight i on))
 unfolding operate
 enable-light-anchored s i on = (tt, λ r h. ap (λ (c : LightChanged). operated (lightNumber (c .answer)) (c .state)) h)
+
+pub set-fog-start-anchored : (s : FfState) (x : Float) → set-fog-start-reads.Asked tt (s, (x, tt)) × ((r : FfState) → set-fog-start-reads.Learnt tt (s, (x, tt)) r (s, (x, tt)) → operated 0 r ≡ operate s (setFogStart x))
+unfolding operate
+set-fog-start-anchored s x = (tt, λ r h. ap (operated 0) h)
+
+pub set-fog-end-anchored : (s : FfState) (x : Float) → set-fog-end-reads.Asked tt (s, (x, tt)) × ((r : FfState) → set-fog-end-reads.Learnt tt (s, (x, tt)) r (s, (x, tt)) → operated 0 r ≡ operate s (setFogEnd x))
+unfolding operate
+set-fog-end-anchored s x = (tt, λ r h. ap (operated 0) h)
+
+pub set-fog-density-anchored : (s : FfState) (x : Float) → set-fog-density-reads.Asked tt (s, (x, tt)) × ((r : FfState) → set-fog-density-reads.Learnt tt (s, (x, tt)) r (s, (x, tt)) → operated 0 r ≡ operate s (setFogDensity x))
+unfolding operate
+set-fog-density-anchored s x = (tt, λ r h. ap (operated 0) h)
+
+pub set-ambient-anchored : (s : FfState) (x : ℕ) → set-ambient-reads.Asked tt (s, (x, tt)) × ((r : FfState) → set-ambient-reads.Learnt tt (s, (x, tt)) r (s, (x, tt)) → operated 0 r ≡ operate s (setAmbient x))
+unfolding operate
+set-ambient-anchored s x = (tt, λ r h. ap (operated 0) h)
+
+pub set-texture-mask-anchored : (s : FfState) (x : ℕ) → set-texture-mask-reads.Asked tt (s, (x, tt)) × ((r : FfState) → set-texture-mask-reads.Learnt tt (s, (x, tt)) r (s, (x, tt)) → operated 0 r ≡ operate s (setTextureMask x))
+unfolding operate
+set-texture-mask-anchored s x = (tt, λ r h. ap (operated 0) h)
 
 pub mark-anchored : (s : FfState) (bits : ℕ) → mark-reads.Asked tt (s, (bits, tt)) × ((r : Marked) → mark-reads.Learnt tt (s, (bits, tt)) r (s, (bits, tt)) → operated (markNumber (r .answer)) (r .state) ≡ operate s (mark bits))
 unfolding operate

@@ -1,4 +1,4 @@
--- What a player can cite. Lists without overwriting leave no section wrong, since none is exempt; after a marking of the five sections and an accepted refresh the whole mirror is right, whatever happened before, since the marking ends every exemption.
+-- What a player can cite. Lists without overwriting leave no section wrong, since none is exempt; after a marking of all eight sections and an accepted refresh the whole mirror is right, whatever happened before, since the marking ends every exemption.
 -- Assumes nothing.
 use Prim.Native.Nat.{ℕ}
 use native.Mathlib.Omega.{arith}
@@ -11,19 +11,16 @@ use lib.Ieee.{Float}
 use lib.ListN.{length}
 use Rattle.lemmas.proofs.Tests.{never, test}
 use Rattle.sections.specs.declared.sections.Section.{Section}
-use Rattle.sections.specs.declared.sections.Section.the-variants.{Wv, Proj, Material, Lights, Palette, Tt}
-use Rattle.packing.specs.Inputs.{packedRows}
+use Rattle.sections.specs.Sections.{allBits}
 use Rattle.sections.specs.declared.key.FfVsKey.{FfVsKey}
 use Rattle.d3d9_model.specs.Operations.{mark}
-use Rattle.packing_agreement.specs.Abstract.{abstractRows}
 use Rattle.trace.specs.Calls.{Call, own, readIn, refresh, overwrite, host, hostOn, operates}
 use Rattle.call_laws.specs.HostOperations.{isWhole, said, operationOf}
 use Rattle.trace.specs.Calls as Calls
-use Rattle.trace.specs.Count.{countBelow, differing}
 use Rattle.trace.specs.World.{World, start, wrongRows}
 use Rattle.trace.specs.Step.{acceptedKey, ours, step, run}
-use Rattle.trace.specs.Claim.{Admissible, OfFive}
-use Rattle.trace.proofs.Allowed.{fiveBits, marks-five}
+use Rattle.trace.specs.Claim.{Admissible}
+use Rattle.trace.proofs.Allowed.{marks-all}
 use Rattle.trace.proofs.Always.{always-right}
 use Rattle.trace.proofs.Exempt.{Hits, only-hit, none-first, marking-ends, host-marking-ends}
 
@@ -79,7 +76,7 @@ accepted-none (host c) w k σ e h = h
 accepted-none (hostOn bytes c) w k σ e h = h
 accepted-none Calls.Call.reads w k σ e h = h
 
--- "the count … is zero in all five sections"
+-- "the mirror's zero count covers eight sections"
 pub without-overwriting : (m : List Float) → length m ≡ 4460 → (calls : List Call) (c : Call) (k : FfVsKey) → NoneOverwrites calls
     → Admissible ours (start m) (calls ++ c ∷ []) → let w = run ours calls (start m) in acceptedKey w c ≡ some k → (σ : Section) → wrongRows (step ours c w) k σ ≡ 0
 without-overwriting m long calls c k none-hits admissible e σ =
@@ -94,32 +91,28 @@ unfolding run
 run-last [] c w = refl
 run-last (b ∷ calls) c w = run-last calls c (step ours b w)
 
-tt-right : (w : World) (k : FfVsKey) → wrongRows w k Tt ≡ 0
-unfolding differing abstractRows packedRows countBelow
-tt-right w k = refl
+-- a marking of every section, by value or by the host
+abbrev pub MarksAll : Call → Type 0
+MarksAll c = (c ≡ own (mark allBits)) ⊎ (c ≡ host (operates (mark allBits)))
 
--- a marking of the five sections, by value or by the host
-abbrev pub MarksFive : Call → Type 0
-MarksFive c = (c ≡ own (mark fiveBits)) ⊎ (c ≡ host (operates (mark fiveBits)))
-
-marking-clears : (c : Call) → MarksFive c → (w : World) (σ : Section) → OfFive σ → step ours c w .track .exempt σ ≡ false
+marking-clears : (c : Call) → MarksAll c → (w : World) (σ : Section) → step ours c w .track .exempt σ ≡ false
 unfolding operationOf isWhole said
-marking-clears c (inl e) w σ f = rw e (marking-ends ours σ (mark fiveBits) w (marks-five (w .abstract) σ f))
-marking-clears c (inr e) w σ f = rw e (host-marking-ends ours σ (mark fiveBits) (mark fiveBits) w refl (marks-five (w .abstract) σ f))
+marking-clears c (inl e) w σ = rw e (marking-ends ours σ (mark allBits) w (marks-all (w .abstract) σ))
+marking-clears c (inr e) w σ = rw e (host-marking-ends ours σ (mark allBits) (mark allBits) w refl (marks-all (w .abstract) σ))
 
 -- "a player that loses its rows must recover without a restart": after any admissible calls, a marking and an accepted refresh
-module _ (m : List Float) (long : length m ≡ 4460) (calls : List Call) (marking c : Call) (k : FfVsKey) (five : MarksFive marking) where
+module _ (m : List Float) (long : length m ≡ 4460) (calls : List Call) (marking c : Call) (k : FfVsKey) (all : MarksAll marking) where
   abbrev lost : World
   lost = run ours calls (start m)
 
   abbrev marked : World
   marked = step ours marking lost
 
-  clear : acceptedKey marked c ≡ some k → (σ : Section) → OfFive σ → step ours c marked .track .exempt σ ≡ false
-  clear e σ f = none-exempt c marked σ (accepted-none c marked k σ e) (marking-clears marking five lost σ f)
+  clear : acceptedKey marked c ≡ some k → (σ : Section) → step ours c marked .track .exempt σ ≡ false
+  clear e σ = none-exempt c marked σ (accepted-none c marked k σ e) (marking-clears marking all lost σ)
 
   pub marking-recovers : Admissible ours (start m) ((calls ++ marking ∷ []) ++ c ∷ []) → acceptedKey marked c ≡ some k → (σ : Section) → wrongRows (step ours c marked) k σ ≡ 0
-  marking-recovers admissible e σ = by-section σ
+  marking-recovers admissible e σ = right σ (clear e σ)
     where
       is : run ours (calls ++ marking ∷ []) (start m) ≡ marked
       is = run-last calls marking (start m)
@@ -128,11 +121,3 @@ module _ (m : List Float) (long : length m ≡ 4460) (calls : List Call) (markin
       right τ off =
           subst (λ (w : World). acceptedKey w c ≡ some k → step ours c w .track .exempt τ ≡ false → wrongRows (step ours c w) k τ ≡ 0) is
           (λ q. always-right m long (calls ++ marking ∷ []) c k admissible q τ) e off
-
-      by-section : (τ : Section) → wrongRows (step ours c marked) k τ ≡ 0
-      by-section Wv = right Wv (clear e Wv tt)
-      by-section Proj = right Proj (clear e Proj tt)
-      by-section Material = right Material (clear e Material tt)
-      by-section Lights = right Lights (clear e Lights tt)
-      by-section Palette = right Palette (clear e Palette tt)
-      by-section Tt = tt-right (step ours c marked) k

@@ -5,6 +5,7 @@ use native.Mathlib.Omega.{arith}
 use mathlib.Core.Path.{_≡_, refl}
 use mathlib.Core.Bool.{Bool, true, false}
 use mathlib.Core.List.{[], _∷_, map}
+use lib.Count.{leadingZeros}
 use lib.Dec.{eqb}
 use lib.Ieee.{nan, add, sub, mul, div, rem, neg, lt, isNan, ofInt, ofBits, toBits}
 use lib.ListN.{replicate}
@@ -19,21 +20,23 @@ use Rattle.matrix.specs.Sum.{sumFrom}
 use Rattle.matrix.specs.Product.{dot, matMul}
 use Rattle.matrix.specs.Transposition.{transposed}
 use Rattle.matrix.specs.View.{viewTransformPoint, viewTransformDir}
-use Rattle.sections.specs.declared.sections.Section.the-variants.{Wv, Proj, Material, Lights, Palette, Tt}
+use Rattle.sections.specs.declared.sections.Section.the-variants.{Wv, Proj, Material, Lights, Palette, Tt, Fog, Ambient}
 use Rattle.rows.specs.Rows.{floats, rowsOf}
-use Rattle.rows.specs.Matrices.{projectionRows, worldViewRows, paletteRows}
+use Rattle.rows.specs.Matrices.{projectionRows, worldViewRows, paletteRows, textureRows}
+use Rattle.rows.specs.Fog.{fogRow}
+use Rattle.rows.specs.Ambient.{overFull, rgbaOf}
 use Rattle.rows.specs.Material.{materialRows}
 use Rattle.light_rows.specs.Floor.{smallest, floored}
 use Rattle.directions.specs.Direction.{lengthOf, unitDirection}
 use Rattle.light_rows.specs.Cone.{coneOf}
 use Rattle.light_rows.specs.Light.{kindOf, lightRows, lightsRows}
-use Rattle.sections.specs.Counts.{paletteMatrices}
+use Rattle.sections.specs.Counts.{places, paletteMatrices}
 use Rattle.sections.specs.Key.{limitOf}
 use Rattle.sections.specs.declared.key.FfVsKey.{FfVsKey}
 use Rattle.packing.specs.Inputs.{packedRows}
 use Rattle.d3d9_model.specs.State.{AbstractState, freshAbstract}
 use Rattle.d3d9_model.specs.Lights.{lookup, isThere, lightEnabled, changedAt, countBeyond, lights?, activeOf, abstractActive}
-use Rattle.d3d9_model.specs.Operations.{enableLight, full, abstractRefusal, abstractChange, abstractStep}
+use Rattle.d3d9_model.specs.Operations.{enableLight, setTextureMask, full, abstractRefusal, abstractChange, abstractStep}
 use Rattle.packing_agreement.specs.Abstract.{matricesFrom, abstractInputs, abstractRows}
 use Rattle.trace.specs.Count.{alike, alikeAt, rowDiffers, countBelow, differing}
 
@@ -51,12 +54,13 @@ litKey =
       «vertex_blend_count» = 3;
     }
 
+-- and up to the third stage's texture matrix
 abbrev oneLight : AbstractState
-oneLight = abstractStep freshAbstract (enableLight 0 true)
+oneLight = abstractStep (abstractStep freshAbstract (enableLight 0 true)) (setTextureMask 4)
 
--- "P2 lit 14 …": four rows from row 10 on; six rows a light; four a matrix
-pub wrong-rows : map (differing (replicate 4460 nan) litKey oneLight) (Wv ∷ Proj ∷ Material ∷ Lights ∷ Palette ∷ Tt ∷ []) ≡ 4 ∷ 4 ∷ 4 ∷ 6 ∷ 12 ∷ 0 ∷ []
-unfolding limitOf differing countBelow rowDiffers alikeAt alike abstractRows abstractInputs matricesFrom packedRows paletteMatrices abstractStep abstractRefusal abstractChange full lookup isThere countBeyond lightEnabled changedAt lights? activeOf abstractActive freshAbstract worldViewRows projectionRows materialRows paletteRows lightsRows lightRows kindOf unitDirection lengthOf floored smallest coneOf larger sqrtOf rootOf nearestRoot floorRoot rootFrom floats rowsOf matMul dot transposed viewTransformPoint viewTransformDir column row sumFrom add sub mul div rem neg lt isNan ofInt ofBits toBits identity defaultMaterial defaultLight
+-- "P2 lit 14 …": four rows from row 10 on; six rows a light; four a matrix; fog and the ambient colour a row each
+pub wrong-rows : map (differing (replicate 4460 nan) litKey oneLight) (Wv ∷ Proj ∷ Material ∷ Lights ∷ Palette ∷ Tt ∷ Fog ∷ Ambient ∷ []) ≡ 4 ∷ 4 ∷ 4 ∷ 6 ∷ 12 ∷ 12 ∷ 1 ∷ 1 ∷ []
+unfolding leadingZeros places textureRows fogRow rgbaOf overFull limitOf differing countBelow rowDiffers alikeAt alike abstractRows abstractInputs matricesFrom packedRows paletteMatrices abstractStep abstractRefusal abstractChange full lookup isThere countBeyond lightEnabled changedAt lights? activeOf abstractActive freshAbstract worldViewRows projectionRows materialRows paletteRows lightsRows lightRows kindOf unitDirection lengthOf floored smallest coneOf larger sqrtOf rootOf nearestRoot floorRoot rootFrom floats rowsOf matMul dot transposed viewTransformPoint viewTransformDir column row sumFrom add sub mul div rem neg lt isNan ofInt ofBits toBits identity defaultMaterial defaultLight
 wrong-rows = refl
 
 -- a count of 0 leaves no row out

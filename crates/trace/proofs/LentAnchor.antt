@@ -18,7 +18,7 @@ use prog.Wp.{Heap}
 use mathlib.Core.Bool.{not}
 use mathlib.Core.List.{List}
 use lib.Dec.{eqb}
-use Rattle.d3d9_model.specs.Operations.{Operation, setTransform, multiplyTransform, setMaterial, setLight, enableLight, mark}
+use Rattle.d3d9_model.specs.Operations.{Operation, setTransform, multiplyTransform, setMaterial, setLight, enableLight, setFogStart, setFogEnd, setFogDensity, setAmbient, setTextureMask, mark}
 use Rattle.image.specs.Read.{readImage, readNumber}
 use Rattle.image.specs.Write.{writeImage, writeNumber}
 use Rattle.ff_state.specs.State.{freshState}
@@ -30,14 +30,19 @@ use Rattle.lent_state.proofs.ff_state_fresh as lent-fresh
 use Rattle.lent_state.proofs.ff_state_mark_ff_vs_dirty as lent-mark
 use Rattle.lent_state.proofs.ff_state_take_ff_vs_dirty as lent-take
 use Rattle.lent_state.proofs.ff_state_set_material as lent-material
-use Rattle.lent_state.proofs.ff_state_set_transform as lent-set
-use Rattle.lent_state.proofs.ff_state_multiply_transform as lent-multiply
+use Rattle.lent_state.proofs.ff_state_set_fog_start as lent-fog-start
+use Rattle.lent_state.proofs.ff_state_set_fog_end as lent-fog-end
+use Rattle.lent_state.proofs.ff_state_set_fog_density as lent-fog-density
+use Rattle.lent_state.proofs.ff_state_set_ambient as lent-ambient
+use Rattle.lent_state.proofs.ff_state_set_texture_mask as lent-texture-mask
+use Rattle.lent_transforms.proofs.ff_state_set_transform as lent-set
+use Rattle.lent_transforms.proofs.ff_state_multiply_transform as lent-multiply
 use Rattle.lent_lights.proofs.ff_state_set_light_at as lent-light
 use Rattle.lent_lights.proofs.ff_state_set_light_enabled_at as lent-enable
 use Rattle.lent_lights.proofs.ff_state_vs_source_light_inputs as lent-inputs
 use Rattle.lent_images.proofs.ff_state_read_image as lent-read
 use Rattle.lent_images.proofs.ff_state_write_image as lent-write
-use Rattle.lent_refresh.specs.Mirror.{LentRefreshed, left, told, lentRefresh}
+use Rattle.refresh_parts.specs.Mirror.{LentRefreshed, left, told, lentRefresh}
 use Rattle.lent_refresh.proofs.ff_state_refresh as lent-refresh
 use Rattle.pack_calls.specs.Key.{keyOf}
 use Rattle.refresh.specs.Answer.{refreshNumber}
@@ -75,6 +80,26 @@ module _ {M : Type 1} (𝓤 : URA M) (H : Heap 𝓤) (A : Atoms 𝓤) (mem : Mem
   pub lent-material-anchored : lent-material.spec 𝓤 H A mem run ≡ says lent-material.ended (λ κs a r e. operates (now (a .0)) (setMaterial (now (a .1 .0))) r (now (e .0)))
   unfolding operate
   lent-material-anchored = refl
+
+  pub lent-fog-start-anchored : lent-fog-start.spec 𝓤 H A mem run ≡ says lent-fog-start.ended (λ κs a r e. operates (now (a .0)) (setFogStart (a .1 .0)) r (now (e .0)))
+  unfolding operate
+  lent-fog-start-anchored = refl
+
+  pub lent-fog-end-anchored : lent-fog-end.spec 𝓤 H A mem run ≡ says lent-fog-end.ended (λ κs a r e. operates (now (a .0)) (setFogEnd (a .1 .0)) r (now (e .0)))
+  unfolding operate
+  lent-fog-end-anchored = refl
+
+  pub lent-fog-density-anchored : lent-fog-density.spec 𝓤 H A mem run ≡ says lent-fog-density.ended (λ κs a r e. operates (now (a .0)) (setFogDensity (a .1 .0)) r (now (e .0)))
+  unfolding operate
+  lent-fog-density-anchored = refl
+
+  pub lent-ambient-anchored : lent-ambient.spec 𝓤 H A mem run ≡ says lent-ambient.ended (λ κs a r e. operates (now (a .0)) (setAmbient (a .1 .0)) r (now (e .0)))
+  unfolding operate
+  lent-ambient-anchored = refl
+
+  pub lent-texture-mask-anchored : lent-texture-mask.spec 𝓤 H A mem run ≡ says lent-texture-mask.ended (λ κs a r e. operates (now (a .0)) (setTextureMask (a .1 .0)) r (now (e .0)))
+  unfolding operate
+  lent-texture-mask-anchored = refl
 
   pub lent-set-anchored : lent-set.spec 𝓤 H A mem run ≡ says lent-set.ended (λ κs a r e. operates (now (a .0)) (setTransform (a .1 .0) (now (a .1 .1 .0))) r (now (e .0)))
   unfolding operate

@@ -260,8 +260,8 @@ module _ (m : List Float) (long : length m ≡ 4460) where
       let was = refresh-after ours (start m) key (theMirror m) accepted in
       subst (λ (t : Track). Marked t key) (sym (own-track rightFirst first turning))
       (again-marked (trackMarked (marks (first .abstract) turning) (first .track)) key key (was .last)
-      (record { lighting-enabled = refl; specular-enable = refl; vertex-blend-indexed = refl; preview = refl; light-active-mask = refl; vertex-blend-count = refl })
-      (λ σ f. ap (λ (t : Bool). t && not (marks (first .abstract) turning σ)) (was .needs σ)))
+      (record { lighting-enabled = refl; specular-enable = refl; vertex-blend-indexed = refl; preview = refl; light-active-mask = refl; fog-mode = refl; vertex-blend-count = refl })
+      (λ σ. ap (λ (t : Bool). t && not (marks (first .abstract) turning σ)) (was .needs σ)))
 
   last-admissible : Admissible rightFirst (start m) ((firstCall ∷ own turning ∷ []) ++ lastCall ∷ [])
   last-admissible = (
@@ -279,7 +279,7 @@ module _ (m : List Float) (long : length m ≡ 4460) where
   unfolding asState start slice
   first-state =
       ap asState (refresh-stored ours (start m) key (theMirror m))
-      ∙ ap (λ (o : RefreshOutcome). o .result .state) (Laws.accepted-is freshState key m (omega arith) (fresh-valid .palette-length) first-answer)
+      ∙ ap (λ (o : RefreshOutcome). o .result .state) (Laws.accepted-is freshState key m (omega arith) (fresh-valid .palette-length) (fresh-valid .texture-length) first-answer)
 
   second-dirty : eqb (dirtyWord (asState (second .stored))) allBits ≡ false
   unfolding asState

@@ -19,7 +19,6 @@ use Rattle.ff_state.specs.Inputs.{sameInputs}
 use Rattle.sections.specs.Sections.{sections, hasSection}
 use Rattle.ff_state.specs.Valid.{Valid}
 use Rattle.sections.specs.declared.sections.Section.{Section}
-use Rattle.sections.specs.declared.sections.Section.the-variants.{Wv, Proj, Material, Lights, Palette, Tt}
 use Rattle.ff_state.specs.declared.state.FfState.{FfState}
 use Rattle.rows.specs.Rows.{floats}
 use Rattle.rows.proofs.Floats.{length-floats}
@@ -27,7 +26,7 @@ use Rattle.sections.specs.Key.{SameShape}
 use Rattle.sections.specs.Sections.{firstRow}
 use Rattle.sections.specs.declared.key.FfVsKey.{FfVsKey}
 use Rattle.packing.specs.Inputs.{packedRows}
-use Rattle.packing.proofs.Depends.{same-rows, shape-rows, shape-count}
+use Rattle.packing.proofs.Depends.{same-rows, same-count, shape-rows, shape-count}
 use Rattle.d3d9_model.specs.State.{AbstractState}
 use Rattle.d3d9_model.specs.Operations.{Operation, abstractStep}
 use Rattle.agreement.specs.Agrees.{Agrees}
@@ -41,10 +40,9 @@ use Rattle.refresh.proofs.Parts.{Holds}
 use Rattle.refresh.proofs.Holding.{every-in, written-off, written-on}
 use Rattle.trace.specs.Count.{rowsUnder}
 use Rattle.trace.specs.World.{Track, withMirror, trackMarked, trackReadIn, trackRefreshed, isRow, hits, rowSet, trackOverwritten, marks}
-use Rattle.trace.specs.Claim.{OfFive}
 use Rattle.trace.proofs.Marks.{Unmarked, left-clean}
 use Rattle.trace.proofs.Shapes.{same-shape}
-use Rattle.packing.specs.Pack.{inputRows}
+use Rattle.packing.specs.Pack.{inputRows, stateCount}
 
 -- the floats of a section's packing of the abstract state
 abbrev pub abstractFloats : Section → AbstractState → FfVsKey → List Float
@@ -74,8 +72,14 @@ module _ {s : FfState} {a : AbstractState} (v : Valid s) (g : Agrees s a) (op : 
       ∙ same-rows s (operate s op .state) k σ e
       ∙ ap (packedRows σ k) (inputs-agree (valid-kept v op fit) (agrees-kept v g op fit))
 
+  counts-stay : sameInputs σ s (operate s op .state) → (k : FfVsKey) → inputRows σ k (abstractInputs a) ≡ inputRows σ k (abstractInputs (abstractStep a op))
+  counts-stay e k =
+      sym (ap (inputRows σ k) (inputs-agree v g))
+      ∙ same-count s (operate s op .state) k σ e
+      ∙ ap (inputRows σ k) (inputs-agree (valid-kept v op fit) (agrees-kept v g op fit))
+
   pub operation-tracked : Tracked s a t σ → Tracked (operate s op .state) (abstractStep a op) (trackMarked (marks a op) t) σ
-  unfolding trackMarked abstractInputs
+  unfolding trackMarked
   operation-tracked was = go (test (hasSection (dirtyWord (operate s op .state)) σ))
     where
       pass : Unmarked s a op σ → Tracked s a t σ → Tracked (operate s op .state) (abstractStep a op) (trackMarked (marks a op) t) σ
@@ -88,7 +92,7 @@ module _ {s : FfState} {a : AbstractState} (v : Valid s) (g : Agrees s a) (op : 
           (record {
             last = r .last;
             rows = r .rows ∙ ap (λ (x : List Row). length x) e;
-            whole = ap (λ (x : List Row). length x) (sym e) ∙ r .whole;
+            whole = ap (λ (x : List Row). length x) (sym e) ∙ r .whole ∙ counts-stay (u .inputs) k;
             holds = subst (λ (x : List Row). Holds (t .mirror) (firstFloat σ) (floats x)) e (r .holds);
           })
 
@@ -157,23 +161,10 @@ overwrite-tracked s a t r x y z u σ (right m k h) = go (test (isRow r σ (t .ro
 
 -- ---- a refresh that is accepted
 
--- TT has no rows, so that it is right always
-of-five : (σ : Section) → OfFive σ ⊎ (σ ≡ Tt)
-of-five Wv = inl tt
-of-five Proj = inl tt
-of-five Material = inl tt
-of-five Lights = inl tt
-of-five Palette = inl tt
-of-five Tt = inr refl
-
-empty-holds : (m : List Float) (at : ℕ) (σ : Section) (a : AbstractState) (k : FfVsKey) → σ ≡ Tt → Holds m at (abstractFloats σ a k)
-unfolding abstractRows packedRows floats
-empty-holds m at σ a k e = subst (λ (τ : Section). Holds m at (abstractFloats τ a k)) (sym e) (λ (j : ℕ) (small : j < 0). absurd (omega (arith, small)))
-
 -- the list has marked what it has to before a refresh under the key
 pub record Marked (t : Track) (k : FfVsKey) : Type 0 where
-  pub shape : (j : FfVsKey) → t .lastKey ≡ some j → (SameShape j k → ⊥) → (σ : Section) → OfFive σ → t .marked σ ≡ true
-  pub image : (σ : Section) → OfFive σ → t .needsMarking σ ≡ false
+  pub shape : (j : FfVsKey) → t .lastKey ≡ some j → (SameShape j k → ⊥) → (σ : Section) → t .marked σ ≡ true
+  pub image : (σ : Section) → t .needsMarking σ ≡ false
 
 module _ {s : FfState} {a : AbstractState} (v : Valid s) (g : Agrees s a) (t : Track) (k : FfVsKey) (ready : Ready s k) (long : length (t .mirror) ≡ 4460) (kept : Marked t k) (σ : Section) where
   abbrev after : List Float
@@ -184,38 +175,37 @@ module _ {s : FfState} {a : AbstractState} (v : Valid s) (g : Agrees s a) (t : T
   shape-floats j e = ap floats (shape-rows e (abstractInputs a) σ)
 
   same-holds : (j : FfVsKey) → SameShape j k → hasSection (dirtyWord s) σ ≡ false → Right a t σ j → Holds after (firstFloat σ) (abstractFloats σ a k)
-  unfolding abstractInputs
   same-holds j e off r =
-      let full : length (abstractFloats σ a j) ≡ 4 * inputRows σ k (abstractInputs a) =
-      length-floats (abstractRows σ a j) ∙ ap (λ (n : ℕ). 4 * n) (r .whole ∙ shape-count e σ (abstractInputs a .textureMask)) in
+      let full : length (abstractFloats σ a j) ≡ 4 * stateCount σ s k =
+      length-floats (abstractRows σ a j) ∙ ap (λ (n : ℕ). 4 * n) (r .whole ∙ shape-count e σ (abstractInputs a .textureMask) ∙ sym (ap (inputRows σ k) (inputs-agree v g))) in
       subst (λ (p : List Float). Holds after (firstFloat σ) p) (shape-floats j e)
       (written-off ready (dirtyWord s) sections σ off (t .mirror) (abstractFloats σ a j) long full
       (r .holds))
 
   -- a section is then right, unless it is exempt
   pub refresh-rights : Tracked s a t σ → (t .exempt σ ≡ true) ⊎ Holds after (firstFloat σ) (abstractFloats σ a k)
-  refresh-rights was = ⊎-elim (λ (five : OfFive σ). go five (test (hasSection (dirtyWord s) σ)) was) (λ (e : σ ≡ Tt). inr (empty-holds after (firstFloat σ) σ a k e)) (of-five σ)
+  refresh-rights was = go (test (hasSection (dirtyWord s) σ)) was
     where
-      go : OfFive σ → (hasSection (dirtyWord s) σ ≡ true) ⊎ (hasSection (dirtyWord s) σ ≡ false) → Tracked s a t σ
+      go : (hasSection (dirtyWord s) σ ≡ true) ⊎ (hasSection (dirtyWord s) σ ≡ false) → Tracked s a t σ
           → (t .exempt σ ≡ true) ⊎ Holds after (firstFloat σ) (abstractFloats σ a k)
-      go five (inl on) was =
+      go (inl on) was =
           inr (subst (λ (p : List Float). Holds after (firstFloat σ) p) (rows-agree v g σ k) (written-on ready (dirtyWord s) sections σ (every-in σ) on (t .mirror) long))
-      go five (inr off) (dirty e) = never (sym e ∙ off)
-      go five (inr off) (unread e) = never (sym e ∙ kept .image σ five)
-      go five (inr off) (hit m e) = inl e
-      go five (inr off) (right m j r) =
+      go (inr off) (dirty e) = never (sym e ∙ off)
+      go (inr off) (unread e) = never (sym e ∙ kept .image σ)
+      go (inr off) (hit m e) = inl e
+      go (inr off) (right m j r) =
           ⊎-elim
           (λ (e : SameShape j k). inr (same-holds j e off r))
-          (λ (n : SameShape j k → ⊥). never (sym (kept .shape j (r .last) n σ five) ∙ m))
+          (λ (n : SameShape j k → ⊥). never (sym (kept .shape j (r .last) n σ) ∙ m))
           (same-shape j k)
 
   rows-whole : rowsUnder k a σ ≡ inputRows σ k (abstractInputs a)
-  unfolding abstractInputs
   rows-whole =
       let p = rows-length ready σ in
       let e = ap (λ (x : List Float). length x) (rows-agree v g σ k) in
       let n = length-floats (abstractRows σ a k) in
-      omega (arith, p, e, n)
+      let q = ap (inputRows σ k) (inputs-agree v g) in
+      omega (arith, p, e, n, q)
 
   pub refresh-tracked : Tracked s a t σ → (u : FfState) → Tracked u a (trackRefreshed k (rowsUnder k a) (withMirror after t)) σ
   unfolding trackRefreshed withMirror

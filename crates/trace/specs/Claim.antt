@@ -8,7 +8,6 @@ use lib.Ieee.{Float}
 use lib.ListN.{length}
 use Rattle.codec.specs.Little.{Bytes}
 use Rattle.sections.specs.declared.sections.Section.{Section}
-use Rattle.sections.specs.declared.sections.Section.the-variants.{Wv, Proj, Material, Lights, Palette, Tt}
 use Rattle.sections.specs.Key.{SameShape}
 use Rattle.sections.specs.declared.key.FfVsKey.{FfVsKey}
 use Rattle.ff_state.specs.Operate as Operate
@@ -41,15 +40,6 @@ Typed (hostOn bytes h) = Bytes bytes × HostTyped h
 Typed Calls.Call.reads = Unit {0}
 
 -- ---- what demand 3 asks of a list
-
--- "all five sections": TT, as the texture mask counts as 0, has no rows, and a list need not mark it
-abbrev pub OfFive : Section → Type 0
-OfFive Wv = Unit {0}
-OfFive Proj = Unit {0}
-OfFive Material = Unit {0}
-OfFive Lights = Unit {0}
-OfFive Palette = Unit {0}
-OfFive Tt = ⊥
 
 -- the floats of a slice that is lent as the mirror
 unfoldable pub ofMirror : {A : Type 0} → (List A → List Float) → Lent A → Option (List Float)
@@ -85,8 +75,8 @@ OnAnother Calls.Call.reads = ⊥
 pub record Keeps (t : Track) (accepted : Option FfVsKey) (c : Call) : Type 0 where
   pub mirror : (m : List Float) → lentMirror c ≡ some m → m ≡ t .mirror
   pub lent : (k : FfVsKey) → accepted ≡ some k → lentMirror c ≡ none → ⊥
-  pub shape : (j k : FfVsKey) → t .lastKey ≡ some j → accepted ≡ some k → (SameShape j k → ⊥) → (σ : Section) → OfFive σ → t .marked σ ≡ true
-  pub image : (k : FfVsKey) → accepted ≡ some k → (OnAnother c → ⊥) × ((σ : Section) → OfFive σ → t .needsMarking σ ≡ false)
+  pub shape : (j k : FfVsKey) → t .lastKey ≡ some j → accepted ≡ some k → (SameShape j k → ⊥) → (σ : Section) → t .marked σ ≡ true
+  pub image : (k : FfVsKey) → accepted ≡ some k → (OnAnother c → ⊥) × ((σ : Section) → t .needsMarking σ ≡ false)
 
 abbrev pub Admits : World → Call → Type 0
 Admits w c = Typed c × Keeps (w .track) (acceptedKey w c) c
@@ -97,7 +87,7 @@ Admissible R w (c ∷ cs) = Admits w c × Admissible R (step R c w) cs
 
 -- ---- the claim
 
--- "right after each accepted refresh, the count of rows in which the mirror differs from a full packing of the state under that refresh's key is zero in all five sections. A section that an overwriting hit is let off, and no other"
+-- "right after each accepted refresh, the count of rows in which the mirror differs from a full packing of the state under that refresh's key is zero in all five sections. A section that an overwriting hit is let off, and no other"; document 02, T-05: "the mirror's zero count covers eight sections"
 abbrev pub AlwaysRight : Refresher → Type 0
 AlwaysRight R =
     (m : List Float) → length m ≡ 4460 →

@@ -2,21 +2,36 @@
 
 use std::collections::BTreeMap;
 
-use mtld3d_types::{D3DLIGHT9, D3DMATERIAL9, D3DMATRIX};
+use mtld3d_types::{D3DLIGHT9, D3DMATERIAL9, D3DMATRIX, RENDER_STATE_COUNT};
 use original::ff_state::FfState;
 
 use crate::call::{Call, Name};
 use crate::image::{self, SLOTS, number16, number32};
 use crate::key::Key;
 use crate::records;
-use crate::section::{FIVE, Section};
+use crate::render_states::{self, RenderStates};
+use crate::section::{EIGHT, Section};
 
-/// Matrices by state number, where they are not the fresh identity; lights by index, each with its enable.
-#[derive(Default)]
+/// Matrices by state number, where they are not the fresh identity; lights by index, each with its enable; fog and the ambient
+/// colour as render states, and the texture mask.
 pub struct Book {
     matrices: BTreeMap<u32, D3DMATRIX>,
     material: D3DMATERIAL9,
     lights: BTreeMap<u32, (D3DLIGHT9, bool)>,
+    render_states: RenderStates,
+    texture_mask: u8,
+}
+
+impl Default for Book {
+    fn default() -> Self {
+        Self {
+            matrices: BTreeMap::new(),
+            material: D3DMATERIAL9::default(),
+            lights: BTreeMap::new(),
+            render_states: [0; RENDER_STATE_COUNT],
+            texture_mask: 0,
+        }
+    }
 }
 
 impl Book {
@@ -25,6 +40,8 @@ impl Book {
     pub fn of_image(bytes: &[u8]) -> Self {
         let mut book = Self {
             material: records::material(&bytes[image::MATERIAL..]),
+            render_states: render_states::of_image(bytes),
+            texture_mask: bytes[image::TEXTURE_MASK],
             ..Self::default()
         };
         for (state, at) in (0..512).filter_map(|state| Some((state, image::place(state)?))) {
@@ -58,8 +75,18 @@ impl Book {
             Name::SetMaterial => self.material = records::material(&call.given),
             Name::SetLightAt => self.light(number).0 = records::light(&call.given),
             Name::SetLightEnabledAt => self.light(number).1 = call.enabled != 0,
-            _ => {}
+            Name::SetTextureMask => self.texture_mask = number as u8,
+            name => {
+                if let Some((state, _)) = render_states::set_by(name) {
+                    self.render_states[state] = number;
+                }
+            }
         }
+    }
+
+    #[must_use]
+    pub fn texture_mask(&self) -> u8 {
+        self.texture_mask
     }
 
     /// The light at an index, the default one and off where there is none.
@@ -69,9 +96,9 @@ impl Book {
             .or_insert((D3DLIGHT9::default(), false))
     }
 
-    /// The sections with rows that a mirror holds wrong, and their counts.
+    /// The sections, and how many of their rows a mirror holds wrong.
     #[must_use]
-    pub fn wrong_rows(&self, key: Key, mirror: &[u8]) -> [(Section, usize); FIVE.len()] {
+    pub fn wrong_rows(&self, key: Key, mirror: &[u8]) -> [(Section, usize); EIGHT.len()] {
         let mut rust = FfState::new();
         for (&state, matrix) in &self.matrices {
             rust.set_transform(state, matrix);
@@ -81,12 +108,16 @@ impl Book {
             rust.set_light_at(index, light);
             rust.set_light_enabled_at(index, *enabled);
         }
+        render_states::set_texture_mask(&mut rust, self.texture_mask);
         let indices = || {
             self.lights
                 .keys()
                 .copied()
                 .skip_while(|&index| index < SLOTS as u32)
         };
-        FIVE.map(|section| (section, section.wrong_rows(&rust, indices(), key, mirror)))
+        EIGHT.map(|section| {
+            let wrong = section.wrong_rows(&rust, &self.render_states, indices(), key, mirror);
+            (section, wrong)
+        })
     }
 }

@@ -82,6 +82,11 @@ calls! {
     IsLightDefinedAt, "ff_is_light_defined_at", [9], None, Gives::Number, false;
     VsSourceLightInputs, "ff_vs_source_light_inputs", [9], None, Gives::Number, false;
     CompactedLightMasks, "ff_compacted_light_masks", [9], None, Gives::Number, false;
+    SetFogStart, "ff_set_fog_start", [9], None, Gives::Nothing, true;
+    SetFogEnd, "ff_set_fog_end", [9], None, Gives::Nothing, true;
+    SetFogDensity, "ff_set_fog_density", [9], None, Gives::Nothing, true;
+    SetAmbient, "ff_set_ambient", [9], None, Gives::Nothing, true;
+    SetTextureMask, "ff_set_texture_mask", [9], None, Gives::Nothing, true;
     MarkFfVsDirty, "ff_mark_ff_vs_dirty", [9, 7], None, Gives::Nothing, true;
     TakeFfVsDirty, "ff_take_ff_vs_dirty", [9], None, Gives::Number, true;
     RowCount, "ff_vs_row_count", [9], None, Gives::RowCount, false;
@@ -91,12 +96,16 @@ calls! {
     LightsRows, "ff_lights_section_rows", [9], None, Gives::Rows(Section::Lights), false;
     PaletteRows, "ff_palette_section_rows", [9], None, Gives::Rows(Section::Palette), false;
     TtRows, "ff_tt_section_rows", [9], None, Gives::Rows(Section::Tt), false;
+    FogRows, "ff_fog_section_rows", [9], None, Gives::Rows(Section::Fog), false;
+    AmbientRows, "ff_ambient_section_rows", [9], None, Gives::Rows(Section::Ambient), false;
     FillWv, "ff_fill_wv_section", [9, 4], None, Gives::Fill(Section::Wv), false;
     FillProj, "ff_fill_proj_section", [9, 4], None, Gives::Fill(Section::Proj), false;
     FillMaterial, "ff_fill_material_section", [9, 4], None, Gives::Fill(Section::Material), false;
     FillLights, "ff_fill_lights_section", [9, 4, 5], None, Gives::Fill(Section::Lights), false;
     FillPalette, "ff_fill_palette_section", [9, 4], None, Gives::Fill(Section::Palette), false;
     FillTt, "ff_fill_tt_section", [9, 4], None, Gives::Fill(Section::Tt), false;
+    FillFog, "ff_fill_fog_section", [9, 4], None, Gives::Fill(Section::Fog), false;
+    FillAmbient, "ff_fill_ambient_section", [9, 4], None, Gives::Fill(Section::Ambient), false;
     Refresh, "ff_refresh", [9, 4, 8, 5], None, Gives::Mirror, true;
 }
 
@@ -115,7 +124,7 @@ impl Name {
         self.packs() || matches!(self, Self::Refresh)
     }
 
-    /// Whether it takes a state, an index or bits.
+    /// Whether it takes a state, an index, bits, or a value of T-05's.
     #[must_use]
     pub const fn takes_number(self) -> bool {
         matches!(
@@ -128,6 +137,11 @@ impl Name {
                 | Self::GetLightAt
                 | Self::IsLightEnabledAt
                 | Self::IsLightDefinedAt
+                | Self::SetFogStart
+                | Self::SetFogEnd
+                | Self::SetFogDensity
+                | Self::SetAmbient
+                | Self::SetTextureMask
                 | Self::MarkFfVsDirty
         )
     }
@@ -148,7 +162,7 @@ pub struct Call {
     pub damage: Option<Damage>,
     /// What is put over the running mirror before the call.
     pub overwrite: Vec<Patch>,
-    /// The state, the index or the bits; 0 where the call has none of them.
+    /// The state, the index, the bits, or the value of T-05's, a texture mask being a byte; 0 where the call has none of them.
     pub number: u32,
     /// `enabled` of ff_set_light_enabled_at.
     pub enabled: u32,
@@ -158,6 +172,8 @@ pub struct Call {
     /// Where it is there, the key's mask is the state's own of the lights that are packed, whatever that is, without these bits.
     pub own_mask: Option<u8>,
     pub lent: Length,
+    /// The texture mask of the state that the call is made on, which tells the rows of TT: settled where the call is judged.
+    pub texture_mask: u8,
 }
 
 impl Call {
@@ -174,6 +190,7 @@ impl Call {
             key: Key::default(),
             own_mask: None,
             lent: Length::Right,
+            texture_mask: 0,
         }
     }
 
@@ -199,7 +216,7 @@ impl Call {
         match self.name.form().gives {
             Gives::Nothing | Gives::Number | Gives::RowCount | Gives::Rows(_) => 0,
             Gives::Item(bytes) => bytes,
-            Gives::Fill(section) => ROW * section.rows(self.key) as usize,
+            Gives::Fill(section) => ROW * section.rows(self.key, self.texture_mask) as usize,
             Gives::Mirror => MIRROR,
         }
     }

@@ -4,6 +4,7 @@ mod again;
 mod packs;
 mod previews;
 mod refreshes;
+mod smoke;
 mod states;
 mod words;
 
@@ -12,7 +13,7 @@ use crate::damage::{Damage, Patch};
 use crate::image::{self, BYTES, REGIONS, ROOM, SLOTS};
 use crate::key::Key;
 use crate::section::MIRROR;
-use crate::states::{directed, enable};
+use crate::states::{directed, enable, set_texture_mask, set_value};
 use crate::world::World;
 
 pub use packs::lists as packs;
@@ -37,6 +38,7 @@ pub fn edges(step: usize) -> Vec<Vec<Call>> {
     ];
     lists.extend(refreshes::lists());
     lists.extend(previews::refreshes());
+    lists.extend(smoke::lists());
     for &name in NAMES {
         lists.push(lengths(name));
         lists.push(images(name));
@@ -50,10 +52,15 @@ fn set_light(index: u32, type_: u32) -> Call {
     crate::states::set_light(index, &directed(type_, [0; 3]))
 }
 
-/// Lights in slots 0 and 7 and two from index 8 on, and no bits: every region of the image has
-/// something to lose.
+/// Lights in slots 0 and 7 and two from index 8 on, fog, an ambient colour and two texture stages, and no bits: every region of
+/// the image has something to lose.
 fn some_lights() -> Vec<Call> {
     vec![
+        set_value(Name::SetFogStart, 0x4000_0000),
+        set_value(Name::SetFogEnd, 0x4040_0000),
+        set_value(Name::SetFogDensity, 0x40A0_0000),
+        set_value(Name::SetAmbient, 0xFF80_4020),
+        set_texture_mask(SOME_STAGES),
         enable(0, 1),
         set_light(7, 2),
         set_light(70, 1),
@@ -61,6 +68,9 @@ fn some_lights() -> Vec<Call> {
         Call::plain(Name::TakeFfVsDirty),
     ]
 }
+
+/// The texture mask of `some_lights`.
+const SOME_STAGES: u8 = 2;
 
 /// The call with arguments that are accepted after `some_lights`, which lights two.
 fn accepted(name: Name) -> Call {
@@ -70,6 +80,7 @@ fn accepted(name: Name) -> Call {
         _ => 0,
     };
     let mut call = Call::numbered(name, number);
+    call.texture_mask = SOME_STAGES;
     if name.takes_key() {
         call.key = Key::of([0, 1, 1, 0, 0, 3, 0, 2]);
         call.own_mask = Some(0);
@@ -121,7 +132,16 @@ fn patched(image: &[u8], call: &Call, patches: impl IntoIterator<Item = Patch>) 
 
 /// Images of other lengths, and each region's first and last byte damaged.
 fn images(name: Name) -> Vec<Call> {
-    let around = [0, 1, BYTES - 4, BYTES - 1, BYTES + 1, BYTES + 4, 2 * BYTES];
+    let around = [
+        0,
+        1,
+        image::TAIL,
+        BYTES - 4,
+        BYTES - 1,
+        BYTES + 1,
+        BYTES + 4,
+        2 * BYTES,
+    ];
     let lengths = around.into_iter().chain(WRAPS.map(|wrap| BYTES + wrap));
     let ends = (1..=REGIONS.len()).map(|next| REGIONS.get(next).map_or(BYTES, |region| region.0));
     let bytes = REGIONS
@@ -154,6 +174,9 @@ fn reasons(name: Name) -> Vec<Call> {
         image::slot(SLOTS) - 4,
         image::entry(0) + 12,
         image::entry(2) - 4,
+        image::FOG_START,
+        image::FOG_END,
+        image::FOG_DENSITY,
     ];
     let nans = [0x7FC0_0001, 0xFFC0_0000, 0x7F80_0001, 0xFF80_0001, u32::MAX];
     let nans = floats
@@ -168,8 +191,9 @@ fn reasons(name: Name) -> Vec<Call> {
     // A zero of the other sign in an undefined slot, and its diffuse alpha.
     let negative = Damage::word(image::slot(3) + 20, 0x8000_0000);
     let alpha = Damage::word(image::slot(3) + 16, 0x3F80_0000);
+    let mask = Damage::word(image::TEXTURE_MASK, 256);
     let mut calls = some_lights();
-    for damage in nans.chain([entries, enable, negative, alpha]) {
+    for damage in nans.chain([entries, enable, negative, alpha, mask]) {
         calls.push(Call {
             damage: Some(damage),
             ..accepted(name)

@@ -1,4 +1,5 @@
-//! Document 01's state image: where each field stands, and the reasons to refuse one with 9.
+//! The state image of document 01, and its tail of document 02's T-05: where each field stands, and the reasons to refuse one
+//! with 9.
 
 use mtld3d_types::D3DLIGHT9;
 
@@ -6,7 +7,7 @@ use crate::call::{LIGHT, MATRIX};
 use crate::floats::{NAN, is_nan};
 use crate::records;
 
-pub const BYTES: usize = 24_204;
+pub const BYTES: usize = 24_224;
 pub const VIEW: usize = 0;
 pub const PROJECTION: usize = 64;
 pub const PALETTE: usize = 128;
@@ -20,6 +21,13 @@ pub const ZERO: usize = 17_927;
 pub const HIGHEST: usize = 17_928;
 pub const COUNT: usize = 17_930;
 pub const ENTRIES: usize = 17_932;
+/// The tail, which begins where an image ended before.
+pub const TAIL: usize = FOG_START;
+pub const FOG_START: usize = 24_204;
+pub const FOG_END: usize = 24_208;
+pub const FOG_DENSITY: usize = 24_212;
+pub const AMBIENT: usize = 24_216;
+pub const TEXTURE_MASK: usize = 24_220;
 /// Index, enable, light.
 pub const ENTRY: usize = 8 + LIGHT;
 
@@ -28,10 +36,10 @@ pub const TEXTURES: usize = 8;
 pub const SLOTS: usize = 8;
 /// The bound that document 01 adds.
 pub const ROOM: usize = 56;
-pub const ALL_DIRTY: u8 = 63;
+pub const ALL_DIRTY: u8 = 255;
 
 /// The regions, each with where it starts and its name.
-pub const REGIONS: [(usize, &str); 13] = [
+pub const REGIONS: [(usize, &str); 18] = [
     (VIEW, "view"),
     (PROJECTION, "projection"),
     (PALETTE, "palette"),
@@ -45,6 +53,11 @@ pub const REGIONS: [(usize, &str); 13] = [
     (HIGHEST, "highest palette index"),
     (COUNT, "overflow count"),
     (ENTRIES, "entries"),
+    (FOG_START, "fog start"),
+    (FOG_END, "fog end"),
+    (FOG_DENSITY, "fog density"),
+    (AMBIENT, "ambient"),
+    (TEXTURE_MASK, "texture mask"),
 ];
 
 /// The name of the region that the byte `at` belongs to.
@@ -94,14 +107,13 @@ macro_rules! reasons {
             $($reason,)*
         }
 
-        /// Each reason with document 01's words for it.
+        /// Each reason with the papers' words for it.
         pub const REASONS: &[(Reason, &str)] = &[$((Reason::$reason, $words),)*];
     };
 }
 
 reasons! {
     Length, "another length";
-    Dirty, "dirty above 63";
     Zero, "zero byte set";
     Highest, "palette index above 255";
     Count, "count above 56";
@@ -110,6 +122,7 @@ reasons! {
     Unused, "nonzero unused entries";
     Enabled, "enabled but undefined";
     Undefined, "an undefined slot not default";
+    Mask, "mask above 255";
     Nan, "another NaN";
 }
 
@@ -121,7 +134,6 @@ pub fn reasons(image: &[u8]) -> Vec<Reason> {
     }
     let used = usize::from(number16(image, COUNT)).min(ROOM);
     let tests = [
-        (Reason::Dirty, image[DIRTY] > ALL_DIRTY),
         (Reason::Zero, image[ZERO] != 0),
         (Reason::Highest, number16(image, HIGHEST) > 255),
         (Reason::Count, usize::from(number16(image, COUNT)) > ROOM),
@@ -132,10 +144,11 @@ pub fn reasons(image: &[u8]) -> Vec<Reason> {
         ),
         (
             Reason::Unused,
-            image[entry(used)..].iter().any(|&byte| byte != 0),
+            image[entry(used)..TAIL].iter().any(|&byte| byte != 0),
         ),
         (Reason::Enabled, image[ENABLED] & !image[DEFINED] != 0),
         (Reason::Undefined, !undefined_slots_are_default(image)),
+        (Reason::Mask, number32(image, TEXTURE_MASK) > 255),
         (Reason::Nan, another_nan(image)),
     ];
     tests
@@ -162,12 +175,13 @@ fn undefined_slots_are_default(image: &[u8]) -> bool {
         .all(|i| image[slot(i)..slot(i) + LIGHT] == default)
 }
 
-/// Floats are all numbers but the lights' types and what stands from `ENABLED` to the first light
-/// of an entry, or between two of them.
+/// Floats are all numbers but the lights' types, what stands from `ENABLED` to the first light of an entry, or between two of
+/// them, and what stands from `AMBIENT` on.
 fn another_nan(image: &[u8]) -> bool {
     let lights = (0..SLOTS).map(slot);
     let entries = (0..ROOM).map(|at| entry(at) + 8);
     has_another_nan(&image[..LIGHTS])
+        || has_another_nan(&image[TAIL..AMBIENT])
         || lights
             .chain(entries)
             .any(|light| has_another_nan(&image[light + 4..light + LIGHT]))

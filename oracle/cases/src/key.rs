@@ -56,15 +56,17 @@ impl Key {
         }
     }
 
-    /// Document 01's shape fields, all except HAS_RHW and `fog_mode`, which the preview's limit joins (document 02, T-01).
+    /// Document 01's shape fields, which the preview's limit joins and `fog_mode` (document 02, T-01 and T-05): all except
+    /// HAS_RHW.
     #[must_use]
-    pub const fn shape(self) -> (bool, bool, bool, bool, u8, u8) {
+    pub const fn shape(self) -> (bool, bool, bool, bool, u8, u8, u8) {
         (
             self.lighting_enabled != 0,
             self.specular_enable != 0,
             self.vertex_blend_indexed != 0,
             self.preview != 0,
             self.light_active_mask,
+            self.fog_mode,
             self.vertex_blend_count,
         )
     }

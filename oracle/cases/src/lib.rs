@@ -24,6 +24,7 @@ pub mod packs;
 pub mod previews;
 pub mod random;
 pub mod records;
+mod render_states;
 pub mod section;
 pub mod seen;
 pub mod states;

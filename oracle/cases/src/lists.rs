@@ -23,6 +23,14 @@ const CHANGES: [Name; 5] = [
     Name::SetLightAt,
     Name::SetLightEnabledAt,
 ];
+/// Document 02, T-05.
+const SETTERS: [Name; 5] = [
+    Name::SetFogStart,
+    Name::SetFogEnd,
+    Name::SetFogDensity,
+    Name::SetAmbient,
+    Name::SetTextureMask,
+];
 
 /// What the calls of one list have in common.
 struct List<'a> {
@@ -38,6 +46,8 @@ struct List<'a> {
     /// The key of the refreshes, and whether its mask is the state's own, without some bits.
     key: Key,
     own_mask: Option<u8>,
+    /// The texture mask that was set last.
+    texture_mask: u8,
     /// Whether the list keeps to demand 3's conditions mostly: no takes, and marks where they are owed.
     keeps: bool,
     /// The sections to be marked before the next refresh.
@@ -54,6 +64,7 @@ impl<'a> List<'a> {
             changes: Vec::new(),
             key: Key::default(),
             own_mask: None,
+            texture_mask: 0,
             keeps: true,
             owed: 0,
         };
@@ -133,11 +144,12 @@ impl List<'_> {
                 .random
                 .pick(&[Name::SetLightAt, Name::SetLightEnabledAt]);
         }
-        match self.random.below(16) {
+        match self.random.below(18) {
             0..5 => self.random.pick(&CHANGES),
-            5..9 => Name::Refresh,
-            9 => Name::MarkFfVsDirty,
-            10 if !self.keeps => Name::TakeFfVsDirty,
+            5..7 => self.random.pick(&SETTERS),
+            7..11 => Name::Refresh,
+            11 => Name::MarkFfVsDirty,
+            12 if !self.keeps => Name::TakeFfVsDirty,
             _ => match self.random.pick(NAMES) {
                 Name::ImageFresh if !self.random.chance(4) => Name::SetLightAt,
                 Name::TakeFfVsDirty if self.keeps => Name::Refresh,
@@ -161,6 +173,9 @@ impl List<'_> {
             call.number = match name {
                 Name::SetTransform | Name::MultiplyTransform | Name::Transform => self.state(),
                 Name::MarkFfVsDirty => self.bits(),
+                Name::SetFogStart | Name::SetFogEnd | Name::SetFogDensity => self.float(),
+                Name::SetAmbient => self.color(),
+                Name::SetTextureMask => self.texture_mask(),
                 _ if at < self.lit => self.pool[at],
                 _ => self.index(),
             };
@@ -194,12 +209,16 @@ impl List<'_> {
     }
 
     fn remember(&mut self, call: &Call) {
-        let sets = CHANGES.contains(&call.name) && call.name != Name::MultiplyTransform;
+        let changes = CHANGES.contains(&call.name) || SETTERS.contains(&call.name);
+        let sets = changes && call.name != Name::MultiplyTransform;
         if sets && !call.has_wrong_length() {
             if self.changes.len() == MEMORY {
                 self.changes.remove(0);
             }
             self.changes.push(call.clone());
+        }
+        if call.name == Name::SetTextureMask {
+            self.texture_mask = call.number as u8;
         }
         // What is lit may change, and the state's own mask with it.
         if matches!(call.name, Name::SetLightAt | Name::SetLightEnabledAt) && self.random.chance(2)

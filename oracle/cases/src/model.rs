@@ -1,8 +1,9 @@
 //! Document 01's host over the unchanged Rust: the Rust's state gives every answer, every row and every field
 //! of the image; what document 01 adds is written here: the refusals, the 56 entries, the image, the refresh. Of document 02 a
-//! multiply's order stands here too, the directions that the Rust does not rule in `section.rs`, and the lights of a preview in
-//! `active.rs`.
+//! multiply's order stands here too, the directions that the Rust does not rule in `section.rs`, the lights of a preview in
+//! `active.rs`, and fog, ambient colour and texture mask in `render_states.rs`.
 
+mod dirty;
 mod imaged;
 
 use std::collections::BTreeSet;
@@ -17,7 +18,8 @@ use crate::call::{Call, Gives, LIGHT, MATERIAL, MATRIX, Name};
 use crate::image::{self, ROOM, SLOTS};
 use crate::key::Key;
 use crate::records;
-use crate::section::{FIVE, Section};
+use crate::render_states::{self, RenderStates};
+use crate::section::{EIGHT, Section};
 
 /// Document 01's numbers of the refusals.
 pub mod refusal {
@@ -34,16 +36,6 @@ pub mod refusal {
     pub const STATUSES: usize = NO_IMAGE as usize + 1;
 }
 
-/// Document 01's six bits and the Rust's, by name.
-const DIRTY: [(u8, FfVsDirty); 6] = [
-    (1, FfVsDirty::WV),
-    (2, FfVsDirty::PROJ),
-    (4, FfVsDirty::MATERIAL),
-    (8, FfVsDirty::LIGHTS),
-    (16, FfVsDirty::PALETTE),
-    (32, FfVsDirty::TT),
-];
-
 #[derive(Clone, Debug, PartialEq, Eq)]
 pub enum Output {
     Nothing,
@@ -58,6 +50,7 @@ pub type Answer = Result<Output, u32>;
 
 pub struct Model {
     rust: FfState,
+    render_states: RenderStates,
     /// The stored light indices of 8 or more.
     overflow: BTreeSet<u32>,
     /// The highest palette index where an image brought one below the Rust's, which only rises.
@@ -75,28 +68,10 @@ impl Model {
     pub fn fresh() -> Self {
         Self {
             rust: FfState::new(),
+            render_states: [0; RENDER_STATE_COUNT],
             overflow: BTreeSet::new(),
             lowered: None,
         }
-    }
-
-    fn mark(&mut self, bits: u8) {
-        for (bit, name) in DIRTY {
-            if bits & bit != 0 {
-                self.rust.mark_ff_vs_dirty(name);
-            }
-        }
-    }
-
-    fn take(&mut self) -> u8 {
-        named(self.rust.take_ff_vs_dirty())
-    }
-
-    /// The Rust has no read of its bits that leaves them: they are taken and marked again.
-    fn dirty(&mut self) -> u8 {
-        let bits = self.rust.take_ff_vs_dirty();
-        self.rust.mark_ff_vs_dirty(bits);
-        named(bits)
     }
 
     fn transform(&self, state: u32) -> &D3DMATRIX {
@@ -155,7 +130,7 @@ impl Model {
             Name::SetLightAt | Name::SetLightEnabledAt => {
                 (!self.has_room(number)).then_some(refusal::TABLE_FULL)
             }
-            Name::MarkFfVsDirty => (number > 63).then_some(refusal::UNKNOWN_BITS),
+            Name::MarkFfVsDirty => (number > 255).then_some(refusal::UNKNOWN_BITS),
             _ => None,
         };
         let length = || call.has_wrong_length().then_some(refusal::WRONG_LENGTH);
@@ -174,15 +149,24 @@ impl Model {
     }
 
     fn fill(&self, section: Section, key: Key) -> Vec<u8> {
-        section.fill(&self.rust, self.indices(), key)
+        section.fill(&self.rust, &self.render_states, self.indices(), key)
+    }
+
+    #[must_use]
+    pub fn texture_mask(&self) -> u8 {
+        self.rust.tt_active_mask()
     }
 
     /// Takes the bits and puts the rows of each section that they name into a copy of the mirror.
     fn refresh(&mut self, call: &Call, mirror: &[u8]) -> Output {
         let bits = self.take();
         let mut mirror = mirror.to_vec();
-        for section in FIVE.into_iter().filter(|section| bits & section.bit() != 0) {
-            mirror[section.place(call.key)].copy_from_slice(&self.fill(section, call.key));
+        let mask = self.texture_mask();
+        for section in EIGHT
+            .into_iter()
+            .filter(|section| bits & section.bit() != 0)
+        {
+            mirror[section.place(call.key, mask)].copy_from_slice(&self.fill(section, call.key));
         }
         Output::Refreshed(u32::from(bits), mirror)
     }
@@ -260,6 +244,17 @@ impl Model {
                 let [active, directional, spot] = compacted_light_masks(&self.rust);
                 Output::Number(u32::from_le_bytes([active, directional, spot, 0]))
             }
+            Name::SetFogStart | Name::SetFogEnd | Name::SetFogDensity | Name::SetAmbient => {
+                let (state, dirty) = render_states::set_by(call.name).expect("a render state");
+                self.render_states[state] = number;
+                self.rust.mark_ff_vs_dirty(dirty);
+                Output::Nothing
+            }
+            Name::SetTextureMask => {
+                render_states::set_texture_mask(&mut self.rust, number as u8);
+                self.rust.mark_ff_vs_dirty(FfVsDirty::TT);
+                Output::Nothing
+            }
             Name::MarkFfVsDirty => {
                 self.mark(number as u8);
                 Output::Nothing
@@ -298,13 +293,4 @@ fn item(length: usize, put: impl FnOnce(&mut [u8])) -> Output {
     let mut bytes = vec![0; length];
     put(&mut bytes);
     Output::Bytes(bytes)
-}
-
-/// Document 01's values of the Rust's bits that it names.
-fn named(bits: FfVsDirty) -> u8 {
-    DIRTY
-        .iter()
-        .filter(|(_, name)| bits.contains(*name))
-        .map(|(bit, _)| bit)
-        .sum()
 }

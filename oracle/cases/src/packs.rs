@@ -55,16 +55,18 @@ pub(crate) fn pack(random: &mut Random, names: &[Name]) -> Call {
 /// Vertex fog off, on, and the largest number.
 const FOGS: [u8; 3] = [0, 1, 255];
 
-/// Lists of row counts: one for each set of flags and each mask.
-pub const ROW_COUNT_LISTS: u64 = 32 * 256;
+/// Lists of row counts: one for each set of flags and each mask; then one for each set of flags and each texture mask.
+pub const ROW_COUNT_LISTS: u64 = 2 * MASKED;
+const MASKED: u64 = 32 * 256;
 /// Row counts of a list where no count is left out.
 pub const ROW_COUNTS: u64 = 256 * FOGS.len() as u64;
 
 /// The row count under one set of flags and one mask, with every count, each with three fog modes; one in `step` counts
-/// only, where `step` is not 1.
+/// only, where `step` is not 1. In the second half of the lists the mask is the state's texture mask, and the lights that a key
+/// has are none to eight in turn.
 #[must_use]
 pub fn row_counts(number: u64, step: usize) -> Vec<Call> {
-    let (flags, mask) = (number >> 8, number as u8);
+    let (textured, flags, mask) = (number >= MASKED, number >> 8, number as u8);
     let [rhw, lit, specular, indexed, preview] = core::array::from_fn(|i| match flags >> i & 1 {
         0 => 0,
         _ => SET[(usize::from(mask) + i) % 4],
@@ -73,9 +75,17 @@ pub fn row_counts(number: u64, step: usize) -> Vec<Call> {
         .step_by(step)
         .chain([39, 40, 41, 255].into_iter().take(step - 1));
     let keys = counts.flat_map(|count| {
-        FOGS.map(|fog| Key::of([rhw, lit, specular, indexed, preview, mask, fog, count]))
+        let lights = if textured {
+            ((1u16 << (count % 9)) - 1) as u8
+        } else {
+            mask
+        };
+        FOGS.map(|fog| Key::of([rhw, lit, specular, indexed, preview, lights, fog, count]))
     });
     let mut calls = kinds_of_lights();
+    if textured {
+        calls.push(states::set_texture_mask(mask));
+    }
     calls.extend(keys.map(|key| Call::keyed(Name::RowCount, key)));
     calls
 }

@@ -40,7 +40,7 @@ pub fn list(seed: u64, number: u64) -> Vec<Call> {
         }
         if random.chance(8) {
             key = previewed(keys::unmasked(random), random);
-            calls.push(mark(31));
+            calls.push(mark(255));
         }
         calls.push(refresh(key, random));
     }

@@ -1,5 +1,5 @@
-//! The sections of a mirror: document 01's bits, first rows and numbers of rows, and the Rust's rows, with document 02's
-//! directions in them where the Rust no longer rules.
+//! The sections of a mirror: the bits, first rows and numbers of rows of documents 01 and 02 (T-05), and the Rust's rows, with
+//! document 02's directions in them where the Rust no longer rules.
 
 use std::mem::MaybeUninit;
 use std::ops::Range;
@@ -13,6 +13,7 @@ use crate::directions::{Rule, in_view, rule, unit};
 use crate::floats::{alike, with_one_nan};
 use crate::image::number32;
 use crate::key::Key;
+use crate::render_states::RenderStates;
 
 /// The bytes of a row.
 pub const ROW: usize = 16;
@@ -32,17 +33,22 @@ pub enum Section {
     Lights,
     Palette,
     Tt,
+    Fog,
+    Ambient,
 }
 
-/// Those with rows, which demand 3 speaks of, and their bits.
-pub const FIVE: [Section; 5] = [
+/// All of them, which demand 3 speaks of, and their bits.
+pub const EIGHT: [Section; 8] = [
     Section::Wv,
     Section::Proj,
     Section::Material,
     Section::Lights,
     Section::Palette,
+    Section::Tt,
+    Section::Fog,
+    Section::Ambient,
 ];
-pub const FIVE_BITS: u8 = 31;
+pub const EIGHT_BITS: u8 = 255;
 
 impl Section {
     #[must_use]
@@ -55,17 +61,18 @@ impl Section {
         match self {
             Self::Wv => 0,
             Self::Proj => 4,
+            Self::Fog => 8,
+            Self::Ambient => 9,
             Self::Material => 10,
             Self::Lights => 15,
+            Self::Tt => 63,
             Self::Palette => 95,
-            // It writes nothing.
-            Self::Tt => ROWS,
         }
     }
 
-    /// Document 01's rows of the section under a key.
+    /// The rows of the section under a key and the state's texture mask.
     #[must_use]
-    pub const fn rows(self, key: Key) -> u32 {
+    pub const fn rows(self, key: Key, texture_mask: u8) -> u32 {
         match self {
             Self::Wv | Self::Proj => 4,
             Self::Material if key.lighting_enabled == 0 => 1,
@@ -75,15 +82,16 @@ impl Section {
             Self::Palette if key.vertex_blend_count == 0 => 0,
             Self::Palette if key.vertex_blend_indexed != 0 => 4 * INDEXED,
             Self::Palette => 4 * key.vertex_blend_count as u32,
-            Self::Tt => 0,
+            Self::Tt => 4 * (8 - texture_mask.leading_zeros()),
+            Self::Fog | Self::Ambient => 1,
         }
     }
 
-    /// The bytes of a mirror that the section has under a key.
+    /// The bytes of a mirror that the section has under a key and a texture mask.
     #[must_use]
-    pub const fn place(self, key: Key) -> Range<usize> {
+    pub const fn place(self, key: Key, texture_mask: u8) -> Range<usize> {
         let start = ROW * self.first_row();
-        start..start + ROW * self.rows(key) as usize
+        start..start + ROW * self.rows(key, texture_mask) as usize
     }
 
     /// The Rust's number of rows.
@@ -94,6 +102,8 @@ impl Section {
             Self::Lights => FfState::lights_section_rows(key),
             Self::Palette => rust.palette_section_rows(key),
             Self::Tt => rust.tt_section_rows(),
+            // Its fills of these are asked for one row.
+            Self::Fog | Self::Ambient => 1,
         })
     }
 
@@ -102,25 +112,28 @@ impl Section {
     pub(crate) fn fill(
         self,
         rust: &FfState,
+        states: &RenderStates,
         indices: impl Iterator<Item = u32> + Clone,
         key: Key,
     ) -> Vec<u8> {
         if self != Self::Lights || key.light_active_mask == 0 {
-            return self.rust_fill(rust, key);
+            return self.rust_fill(rust, states, key);
         }
-        let mut bytes = asked(rust, indices.clone(), key, |rust| self.rust_fill(rust, key));
+        let mut bytes = asked(rust, indices.clone(), key, |rust| {
+            self.rust_fill(rust, states, key)
+        });
         put_directions(rust, &active(rust, indices, key.limit()), &mut bytes);
         bytes
     }
 
     /// The Rust's rows.
-    fn rust_fill(self, rust: &FfState, key: Key) -> Vec<u8> {
-        let rows = self.rows(key);
+    fn rust_fill(self, rust: &FfState, states: &RenderStates, key: Key) -> Vec<u8> {
+        let rows = self.rows(key, rust.tt_active_mask());
         let key = &key.rust();
         assert_eq!(
             rows,
             self.rust_rows(rust, key),
-            "document 01's rows are the Rust's"
+            "the papers' rows are the Rust's"
         );
         // A float that no input is likely to give, so that a row that the Rust leaves alone is seen.
         let unwritten = MaybeUninit::new([f32::from_bits(0x5EAD_BEEF); 4]);
@@ -132,6 +145,8 @@ impl Section {
             Self::Lights => rust.fill_lights_section(key, &mut dst),
             Self::Palette => rust.fill_palette_section(key, &mut dst),
             Self::Tt => rust.fill_tt_section(&mut dst),
+            Self::Fog => FfState::fill_fog_section(states, key.fog_mode, &mut dst),
+            Self::Ambient => FfState::fill_ambient_section(states, &mut dst),
         }
         let mut bytes = Vec::with_capacity(ROW * dst.len());
         for row in dst {
@@ -147,12 +162,13 @@ impl Section {
     pub(crate) fn wrong_rows(
         self,
         rust: &FfState,
+        states: &RenderStates,
         indices: impl Iterator<Item = u32> + Clone,
         key: Key,
         mirror: &[u8],
     ) -> usize {
-        let packing = self.fill(rust, indices, key);
-        let found = mirror[self.place(key)].chunks(ROW);
+        let packing = self.fill(rust, states, indices, key);
+        let found = mirror[self.place(key, rust.tt_active_mask())].chunks(ROW);
         found
             .zip(packing.chunks(ROW))
             .filter(|(a, b)| (0..ROW).step_by(4).any(|at| !alike_at(a, b, at)))

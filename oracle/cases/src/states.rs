@@ -3,7 +3,7 @@
 use crate::answers::Words;
 use crate::call::{Call, LIGHT, MATERIAL, Name};
 use crate::floats::{self, NAN, ONE, SIGN, SPECIAL, scaled};
-use crate::image::{MATRICES, SLOTS};
+use crate::image::{MATRICES, SLOTS, TEXTURES};
 use crate::key::Key;
 use crate::lists;
 use crate::matrices::{self, KINDS, Kind};
@@ -11,6 +11,7 @@ use crate::random::Random;
 
 const VIEW: u32 = 2;
 const PROJECTION: u32 = 3;
+const TEXTURE: u32 = 16;
 const WORLD: u32 = 256;
 
 /// 1e20 and 1e-20, whose squares are no normal floats; the first is of document 01's run-only case.
@@ -38,6 +39,7 @@ pub fn calls(seed: u64, number: u64) -> Vec<Call> {
     let mut calls = transforms(&mut random);
     calls.push(set_material(floats_of(MATERIAL / 4, &mut random)));
     lights(&mut random, &mut calls);
+    smoke(&mut random, &mut calls);
     calls
 }
 
@@ -55,6 +57,17 @@ pub fn set_material(given: Vec<u8>) -> Call {
         given,
         ..Call::plain(Name::SetMaterial)
     }
+}
+
+/// Document 02, T-05: fog's start, end or density by the bits of a float, or the ambient colour.
+#[must_use]
+pub fn set_value(name: Name, value: u32) -> Call {
+    Call::numbered(name, value)
+}
+
+#[must_use]
+pub fn set_texture_mask(mask: u8) -> Call {
+    Call::numbered(Name::SetTextureMask, mask.into())
 }
 
 #[must_use]
@@ -160,6 +173,25 @@ fn lights(random: &mut Random, calls: &mut Vec<Call>) {
             calls.push(enable(index, 1));
         }
     }
+}
+
+/// Fog, an ambient colour, some texture matrices and a texture mask.
+fn smoke(random: &mut Random, calls: &mut Vec<Call>) {
+    for name in [Name::SetFogStart, Name::SetFogEnd, Name::SetFogDensity] {
+        calls.push(set_value(name, float(random)));
+    }
+    calls.push(set_value(Name::SetAmbient, random.word()));
+    for _ in 0..random.below(4) {
+        let stage = TEXTURE + random.below(TEXTURES as u32);
+        let kind = random.pick(&KINDS);
+        calls.push(set_transform(stage, &matrices::matrix(kind, random)));
+    }
+    let mask = match random.below(3) {
+        0 => 0,
+        1 => 1 << random.below(8),
+        _ => random.below(256) as u8,
+    };
+    calls.push(set_texture_mask(mask));
 }
 
 pub(crate) fn light(random: &mut Random) -> [u32; LIGHT / 4] {

@@ -19,7 +19,7 @@ pub struct World {
 
 /// What a call must answer, and why its image was refused.
 pub struct Judged {
-    /// The call as it is made: its mask is settled.
+    /// The call as it is made: its mask is settled, and the texture mask that it meets.
     pub call: Call,
     pub answer: Answer,
     pub reasons: Vec<Reason>,
@@ -94,6 +94,7 @@ impl World {
             limited: false,
             due: None,
         };
+        judged.call.texture_mask = self.model.texture_mask();
         self.overwrite(call);
         if call.name == Name::ImageFresh {
             judged.ran = damaged.is_none_or(|bytes| bytes.len() == BYTES);
@@ -112,6 +113,7 @@ impl World {
                 return judged;
             }
             self.read_in(bytes);
+            judged.call.texture_mask = self.model.texture_mask();
         }
         if let Some(without) = call.own_mask {
             judged.call.key.light_active_mask = self.model.active(call.key) & !without;
@@ -157,7 +159,7 @@ impl World {
             (Name::TakeFfVsDirty, _) => self.claim.read_in(),
             (_, Output::Refreshed(_, mirror)) => {
                 self.mirror.copy_from_slice(mirror);
-                return self.claim.refreshed(call.key);
+                return self.claim.refreshed(call.key, self.book.texture_mask());
             }
             _ => {}
         }

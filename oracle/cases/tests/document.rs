@@ -1,4 +1,4 @@
-//! The model beside document 01's cases and its description of the image.
+//! The model beside document 01's cases and the papers' description of the image.
 
 use cases::call::{Call, Name};
 use cases::damage::Damage;
@@ -69,7 +69,7 @@ fn p9_room_for_lights() {
 
 #[test]
 fn the_fresh_image() {
-    let mut expected = vec![0; 24_204];
+    let mut expected = vec![0; 24_224];
     let one = 1f32.to_le_bytes();
     for matrix in 0..266 {
         for row in 0..4 {
@@ -86,7 +86,7 @@ fn the_fresh_image() {
             expected[at..at + 4].copy_from_slice(&one);
         }
     }
-    expected[17_926] = 63;
+    expected[17_926] = 255;
     assert!(World::fresh().image() == expected);
 }
 
@@ -100,9 +100,9 @@ fn each_reason_alone() {
         damage.and(Damage::word(17_932 + 112 * i, 8 + i as u32))
     });
     let cases = [
-        (Damage::length(24_203), Reason::Length),
-        (Damage::length(24_205), Reason::Length),
-        (Damage::bytes(17_926, &[64]), Reason::Dirty),
+        (Damage::length(24_223), Reason::Length),
+        (Damage::length(24_225), Reason::Length),
+        (Damage::length(24_204), Reason::Length),
         (Damage::bytes(17_927, &[1]), Reason::Zero),
         (Damage::bytes(17_928, &[0, 1]), Reason::Highest),
         (full, Reason::Count),
@@ -116,19 +116,28 @@ fn each_reason_alone() {
         ),
         (Damage::word(0, 0x7FC0_0001), Reason::Nan),
         (Damage::word(17_932 + 12, 0xFFC0_0000), Reason::Nan),
+        (Damage::word(24_204, 0x7FC0_0001), Reason::Nan),
+        (Damage::word(24_208, 0x7F80_0001), Reason::Nan),
+        (Damage::word(24_212, 0xFFC0_0000), Reason::Nan),
+        (Damage::word(24_220, 256), Reason::Mask),
+        (Damage::word(24_220, 0x8000_0000), Reason::Mask),
     ];
     for (damage, reason) in cases {
         let mut bytes = world.image().to_vec();
         damage.apply(&mut bytes);
         assert_eq!(image::reasons(&bytes), [reason], "{damage}");
     }
-    // These leave an image: the one NaN, a type with a NaN's bits, another index, no bits.
+    // These leave an image: the one NaN, a type or a colour with a NaN's bits, another index, no bits, all bits, every mask.
     let kept = [
         Damage::word(0, 0x7FC0_0000),
         Damage::word(17_092, 0x7F80_0001),
         Damage::word(17_932, 8),
         Damage::bytes(17_928, &[255]),
         Damage::bytes(17_926, &[0]),
+        Damage::bytes(17_926, &[255]),
+        Damage::word(24_208, 0x7FC0_0000),
+        Damage::word(24_216, 0x7FC0_0001),
+        Damage::word(24_220, 255),
     ];
     for damage in kept {
         let mut bytes = world.image().to_vec();

@@ -146,5 +146,5 @@ fn refusals_of_packing() {
         let judged = world.judge(&Call::plain(name), Some(&[]));
         assert_eq!(judged.answer, Err(9));
     }
-    assert_eq!(Section::Tt.rows(LIT), 0);
+    assert_eq!(Section::Tt.rows(LIT, 0), 0);
 }

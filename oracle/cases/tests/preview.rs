@@ -3,7 +3,7 @@
 use cases::call::{Call, Length, Name};
 use cases::key::Key;
 use cases::model::Output;
-use cases::section::{FIVE_BITS, MIRROR, ROW, Section};
+use cases::section::{EIGHT_BITS, MIRROR, ROW, Section};
 use cases::states::{directed, enable, mark, refresh, set_light};
 use cases::world::{Judged, World};
 
@@ -150,8 +150,8 @@ fn refused_refreshes_of_a_preview() {
         5
     );
     let judged = ask(&mut world, &refresh(0, 0x0F, Length::Right));
-    assert!(matches!(judged.answer, Ok(Output::Refreshed(63, _))));
-    let rows = &world.mirror()[Section::Lights.place(judged.call.key)];
+    assert!(matches!(judged.answer, Ok(Output::Refreshed(255, _))));
+    let rows = &world.mirror()[Section::Lights.place(judged.call.key, 0)];
     assert_eq!(places(rows), [1.0, 2.0, 3.0, 4.0]);
 }
 
@@ -159,20 +159,20 @@ fn refused_refreshes_of_a_preview() {
 #[test]
 fn another_limit_needs_marks() {
     let mut world = in_a_row(9);
-    assert_eq!(ask(&mut world, &refresh(LIT)).due, Some(FIVE_BITS));
+    assert_eq!(ask(&mut world, &refresh(LIT)).due, Some(EIGHT_BITS));
     assert_eq!(ask(&mut world, &refresh(PREVIEW)).due, None);
-    ask(&mut world, &mark(31));
-    assert_eq!(ask(&mut world, &refresh(PREVIEW)).due, Some(FIVE_BITS));
+    ask(&mut world, &mark(255));
+    assert_eq!(ask(&mut world, &refresh(PREVIEW)).due, Some(EIGHT_BITS));
     let same = Key {
         preview: 128,
         ..PREVIEW
     };
-    assert_eq!(ask(&mut world, &refresh(same)).due, Some(FIVE_BITS));
+    assert_eq!(ask(&mut world, &refresh(same)).due, Some(EIGHT_BITS));
     // With four lights the mask is the same under either limit.
     for index in 6..=10 {
         ask(&mut world, &enable(index, 0));
     }
-    assert_eq!(ask(&mut world, &refresh(PREVIEW)).due, Some(FIVE_BITS));
+    assert_eq!(ask(&mut world, &refresh(PREVIEW)).due, Some(EIGHT_BITS));
     assert_eq!(ask(&mut world, &refresh(LIT)).due, None);
 }
 
@@ -181,18 +181,18 @@ fn another_limit_needs_marks() {
 fn the_book_counts_a_previews_rows() {
     let mut world = in_a_row(9);
     let judged = ask(&mut world, &refresh(PREVIEW));
-    assert_eq!(judged.due, Some(FIVE_BITS));
+    assert_eq!(judged.due, Some(EIGHT_BITS));
     assert!(world.stale(&judged, world.mirror()).is_none());
     let mut last = world.mirror().to_vec();
     let full = fill(&mut world, with_mask(LIT, 0xFF)).expect("the Rust's own mask");
-    last[Section::Lights.place(judged.call.key)].copy_from_slice(&full[24 * ROW..]);
+    last[Section::Lights.place(judged.call.key, 0)].copy_from_slice(&full[24 * ROW..]);
     // The lights differ in their first rows.
     assert_eq!(world.stale(&judged, &last), Some((Section::Lights, 4)));
     // The first one goes out, and each stands where the next did.
     let before = world.mirror().to_vec();
     ask(&mut world, &enable(2, 0));
     let judged = ask(&mut world, &refresh(PREVIEW));
-    assert_eq!(judged.due, Some(FIVE_BITS));
+    assert_eq!(judged.due, Some(EIGHT_BITS));
     assert!(world.stale(&judged, world.mirror()).is_none());
     assert_eq!(world.stale(&judged, &before), Some((Section::Lights, 4)));
 }

@@ -5,7 +5,7 @@ use cases::damage::Damage;
 use cases::image;
 use cases::key::Key;
 use cases::model::Output;
-use cases::section::{FIVE_BITS, MIRROR, ROW, Section};
+use cases::section::{EIGHT_BITS, MIRROR, ROW, Section};
 use cases::states::{directed, enable, set_light, set_material, set_transform};
 use cases::world::{Judged, World};
 
@@ -49,7 +49,7 @@ fn refreshed() -> World {
         ..refresh(KEY)
     };
     let judged = ask(&mut world, &call);
-    assert_eq!((bits(&judged), judged.due), (63, Some(FIVE_BITS)));
+    assert_eq!((bits(&judged), judged.due), (255, Some(EIGHT_BITS)));
     assert_eq!(judged.call.key.light_active_mask, 3);
     world
 }
@@ -57,14 +57,14 @@ fn refreshed() -> World {
 #[test]
 fn the_rows_that_a_refresh_writes() {
     let mut world = refreshed();
-    let written = [0..4, 4..8, 10..15, 15..27, 95..107];
+    let written = [0..4, 4..8, 8..9, 9..10, 10..15, 15..27, 95..107];
     for row in 0..MIRROR / ROW {
         let bytes = &world.mirror()[ROW * row..ROW * row + ROW];
         let inside = written.iter().any(|rows| rows.contains(&row));
         assert_eq!(bytes != [0xFF; ROW], inside, "row {row}");
     }
     let judged = ask(&mut world, &refresh(KEY));
-    assert_eq!((bits(&judged), judged.due), (0, Some(FIVE_BITS)));
+    assert_eq!((bits(&judged), judged.due), (0, Some(EIGHT_BITS)));
     ask(&mut world, &mark(32));
     assert_eq!(bits(&ask(&mut world, &refresh(KEY))), 32);
 }
@@ -102,30 +102,32 @@ fn refusals_in_order() {
 fn an_overwriting_lets_off_what_it_hits_until_it_is_marked() {
     let mut world = refreshed();
     // Rows of no section: those between, and those behind the three matrices.
-    for row in [8, 9, 27, 94, 107, 1114] {
+    for row in [27, 63, 94, 107, 1114] {
         let judged = ask(&mut world, &overwriting(refresh(KEY), row));
-        assert_eq!(judged.due, Some(FIVE_BITS), "row {row}");
+        assert_eq!(judged.due, Some(EIGHT_BITS), "row {row}");
         assert!(world.stale(&judged, world.mirror()).is_none());
     }
     let hit = [
         (3, Section::Wv),
         (4, Section::Proj),
+        (8, Section::Fog),
+        (9, Section::Ambient),
         (14, Section::Material),
         (26, Section::Lights),
         (106, Section::Palette),
     ];
     for (row, section) in hit {
         let judged = ask(&mut world, &overwriting(refresh(KEY), row));
-        assert_eq!(judged.due, Some(FIVE_BITS & !section.bit()));
+        assert_eq!(judged.due, Some(EIGHT_BITS & !section.bit()));
         assert!(world.stale(&judged, world.mirror()).is_none());
         let all = Judged {
-            due: Some(FIVE_BITS),
+            due: Some(EIGHT_BITS),
             ..judged
         };
         assert_eq!(world.stale(&all, world.mirror()), Some((section, 1)));
         ask(&mut world, &mark(u32::from(section.bit())));
         let judged = ask(&mut world, &refresh(KEY));
-        assert_eq!(judged.due, Some(FIVE_BITS));
+        assert_eq!(judged.due, Some(EIGHT_BITS));
         assert!(world.stale(&judged, world.mirror()).is_none());
     }
 }
@@ -138,20 +140,21 @@ fn another_shape_and_an_image_read_in_need_marks() {
         ..KEY
     };
     assert_eq!(ask(&mut world, &refresh(other)).due, None);
-    // Not before all five are marked is the count due again.
+    // Not before all eight are marked is the count due again.
     assert_eq!(ask(&mut world, &refresh(other)).due, None);
-    ask(&mut world, &mark(30));
-    assert_eq!(ask(&mut world, &refresh(other)).due, None);
+    for bits in [254, 31, 63, 191, 223] {
+        ask(&mut world, &mark(bits));
+        assert_eq!(ask(&mut world, &refresh(other)).due, None);
+    }
     ask(&mut world, &mark(15));
-    ask(&mut world, &mark(16));
-    assert_eq!(ask(&mut world, &refresh(other)).due, Some(FIVE_BITS));
-    // The fog mode is no shape, and a flag is set by any number.
+    ask(&mut world, &mark(0xF0));
+    assert_eq!(ask(&mut world, &refresh(other)).due, Some(EIGHT_BITS));
+    // A flag is set by any number.
     let same = Key {
-        fog_mode: 7,
         lighting_enabled: 128,
         ..other
     };
-    assert_eq!(ask(&mut world, &refresh(same)).due, Some(FIVE_BITS));
+    assert_eq!(ask(&mut world, &refresh(same)).due, Some(EIGHT_BITS));
 
     let mut bytes = world.image().to_vec();
     Damage::word(image::MATERIAL, 0x4000_0000).apply(&mut bytes);
@@ -159,19 +162,19 @@ fn another_shape_and_an_image_read_in_need_marks() {
     assert_eq!(judged.due, None);
     // The bit was clean, so that the row is stale.
     let all = Judged {
-        due: Some(FIVE_BITS),
+        due: Some(EIGHT_BITS),
         ..judged
     };
     assert_eq!(
         world.stale(&all, world.mirror()),
         Some((Section::Material, 1))
     );
-    ask(&mut world, &mark(31));
-    assert_eq!(ask(&mut world, &refresh(same)).due, Some(FIVE_BITS));
+    ask(&mut world, &mark(255));
+    assert_eq!(ask(&mut world, &refresh(same)).due, Some(EIGHT_BITS));
     ask(&mut world, &Call::plain(Name::TakeFfVsDirty));
     assert_eq!(ask(&mut world, &refresh(same)).due, None);
     ask(&mut world, &Call::plain(Name::ImageFresh));
-    assert_eq!(ask(&mut world, &refresh(KEY)).due, Some(FIVE_BITS));
+    assert_eq!(ask(&mut world, &refresh(KEY)).due, Some(EIGHT_BITS));
 }
 
 /// The book takes the calls' arguments: a mirror that lacks a change has wrong rows in its section.
@@ -190,7 +193,7 @@ fn the_book_finds_stale_rows() {
         let before = world.mirror().to_vec();
         assert!(ask(&mut world, &change).answer.is_ok());
         let judged = ask(&mut world, &refresh(KEY));
-        assert_eq!(judged.due, Some(FIVE_BITS));
+        assert_eq!(judged.due, Some(EIGHT_BITS));
         assert!(world.stale(&judged, world.mirror()).is_none());
         assert_eq!(world.stale(&judged, &before), Some((section, count)));
     }

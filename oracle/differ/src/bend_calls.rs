@@ -8,6 +8,7 @@ mod previews;
 mod reads;
 mod refreshes;
 mod rows;
+mod smoke;
 
 use cases::call::{Call, Name};
 use cases::image;
@@ -78,6 +79,15 @@ impl Held<'_> {
         self.lent.out[at..at + 4].copy_from_slice(&word.to_le_bytes());
     }
 
+    /// The image's texture mask; 0 where it is shorter.
+    fn texture_mask(&self) -> u8 {
+        self.lent
+            .image
+            .get(image::TEXTURE_MASK)
+            .copied()
+            .unwrap_or(0)
+    }
+
     fn count(&self) -> usize {
         usize::from(image::number16(self.lent.image, image::COUNT))
     }
@@ -115,6 +125,11 @@ pub fn call(bend: Bend, call: &Call, lent: Lent<'_>) -> u32 {
         Name::SetTransform | Name::MultiplyTransform => changes::change_transform(bend, call, held),
         Name::SetMaterial => changes::set_material(bend, call, held),
         Name::SetLightAt | Name::SetLightEnabledAt => changes::change_light(bend, call, held),
+        Name::SetFogStart
+        | Name::SetFogEnd
+        | Name::SetFogDensity
+        | Name::SetAmbient
+        | Name::SetTextureMask => smoke::set(bend, call, held),
         Name::MarkFfVsDirty | Name::TakeFfVsDirty => changes::dirty(bend, call, held),
         Name::Refresh => refreshes::refresh(bend, call, held),
         name if name.packs() => rows::pack(bend, call, held),

@@ -80,6 +80,7 @@ bends! {
     "ff_image_check" {
         CheckLength, "check-length", ["calls"];
         CheckDirty, "check-dirty", ["calls"];
+        CheckDirtySix, "check-dirty-six", ["calls"];
         CheckZero, "check-zero", ["calls"];
         CheckHighest, "check-highest", ["calls"];
         CheckCount, "check-count", ["calls"];
@@ -89,6 +90,13 @@ bends! {
         CheckEnabled, "check-enabled", ["calls"];
         CheckUndefined, "check-undefined", ["calls"];
         CheckNan, "check-nan", ["calls"];
+        CheckMask, "check-mask", ["calls"];
+        CheckMaskByte, "check-mask-byte", ["calls"];
+        CheckFogStart, "check-fog-start", ["calls"];
+        CheckFogEnd, "check-fog-end", ["calls"];
+        CheckFogDensity, "check-fog-density", ["calls"];
+        CheckOldLength, "check-old-length", ["calls"];
+        CheckColorNan, "check-color-nan", ["calls"];
         CheckType, "check-type", ["calls"];
         CheckOneNan, "check-one-nan", ["calls"];
     }
@@ -183,8 +191,34 @@ bends! {
         MasksSlots, "masks-slots", ["calls"];
         MasksFour, "masks-four", ["calls"];
     }
+    "ff_set_fog_start" {
+        FogStartClean, "fog-start-clean", ["calls"];
+        FogStartEqualKeepsClean, "fog-start-equal-keeps-clean", ["calls"];
+        FogStartNan, "fog-start-nan", ["calls"];
+    }
+    "ff_set_fog_end" {
+        FogEndAtStart, "fog-end-at-start", ["calls"];
+        FogEndMarksAmbient, "fog-end-marks-ambient", ["calls"];
+    }
+    "ff_set_fog_density" {
+        FogDensityFlushes, "fog-density-flushes", ["calls"];
+        FogDensityMarksAll, "fog-density-marks-all", ["calls"];
+    }
+    "ff_set_ambient" {
+        AmbientMarksFog, "ambient-marks-fog", ["calls"];
+        AmbientNan, "ambient-nan", ["calls"];
+        AmbientEqualKeepsClean, "ambient-equal-keeps-clean", ["calls"];
+    }
+    "ff_set_texture_mask" {
+        MaskEqualKeepsClean, "mask-equal-keeps-clean", ["calls"];
+        MaskClean, "mask-clean", ["calls"];
+        MaskAdds, "mask-adds", ["calls"];
+        MaskSeven, "mask-seven", ["calls"];
+        MaskRefusalWrites, "mask-refusal-writes", ["calls"];
+    }
     "ff_mark_ff_vs_dirty" {
         MarkSeventh, "mark-seventh", ["calls"];
+        MarkNinth, "mark-ninth", ["calls"];
         MarkByte, "mark-byte", ["calls"];
         MarkBitsBeforeImage, "mark-bits-before-image", ["calls"];
         MarkRefusalMarks, "mark-refusal-marks", ["calls"];
@@ -203,6 +237,9 @@ bends! {
         CountFlagLow, "count-flag-low", ["row-count"];
         CountCap, "count-cap", ["row-count"];
         CountPreview, "count-preview", ["row-count", "packs"];
+        CountNoTextures, "count-no-textures", ["row-count", "packs", "calls"];
+        CountTextureOff, "count-texture-off", ["row-count", "packs", "calls"];
+        CountTexturesLit, "count-textures-lit", ["row-count", "packs"];
         CountRefusalNumber, "count-refusal-number", ["packs"];
     }
     "ff_wv_section_rows" {
@@ -225,6 +262,15 @@ bends! {
     }
     "ff_tt_section_rows" {
         TtRowsStages, "tt-rows-stages", ["packs"];
+        TtRowsOnes, "tt-rows-ones", ["calls", "packs"];
+        TtRowsNone, "tt-rows-none", ["calls", "packs"];
+        TtRowsTransformed, "tt-rows-transformed", ["packs"];
+    }
+    "ff_fog_section_rows" {
+        FogRowsNone, "fog-rows-none", ["calls", "packs"];
+    }
+    "ff_ambient_section_rows" {
+        AmbientRowsUnlit, "ambient-rows-unlit", ["packs"];
     }
     "ff_fill_wv_section" {
         WvUntransposed, "wv-untransposed", ["packs"];
@@ -286,6 +332,24 @@ bends! {
     }
     "ff_fill_tt_section" {
         TtStages, "tt-stages", ["packs"];
+        TtIdentity, "tt-identity", ["calls", "packs"];
+        TtUntransposed, "tt-untransposed", ["packs"];
+        TtFirst, "tt-first", ["calls", "packs"];
+    }
+    "ff_fill_fog_section" {
+        FogAlways, "fog-always", ["calls", "packs"];
+        FogLinearOnly, "fog-linear-only", ["calls", "packs"];
+        FogModeLow, "fog-mode-low", ["calls", "packs"];
+        FogOrder, "fog-order", ["calls", "packs"];
+        FogFourth, "fog-fourth", ["calls", "packs"];
+        FogAnyLength, "fog-any-length", ["packs"];
+    }
+    "ff_fill_ambient_section" {
+        AmbientSwapped, "ambient-swapped", ["calls", "packs"];
+        AmbientAlphaFirst, "ambient-alpha-first", ["calls", "packs"];
+        AmbientOver256, "ambient-over-256", ["calls", "packs"];
+        AmbientReciprocal, "ambient-reciprocal", ["calls"];
+        AmbientOpaque, "ambient-opaque", ["calls", "packs"];
     }
     "ff_refresh" {
         RefreshKeepsBits, "refresh-keeps-bits", ["calls"];
@@ -294,6 +358,12 @@ bends! {
         RefreshForgetsMaterial, "refresh-forgets-material", ["calls"];
         RefreshForgetsLights, "refresh-forgets-lights", ["calls"];
         RefreshForgetsPalette, "refresh-forgets-palette", ["calls"];
+        RefreshForgetsTt, "refresh-forgets-tt", ["calls"];
+        RefreshForgetsFog, "refresh-forgets-fog", ["calls"];
+        RefreshForgetsAmbient, "refresh-forgets-ambient", ["calls"];
+        RefreshTtLate, "refresh-tt-late", ["calls"];
+        RefreshTtStages, "refresh-tt-stages", ["calls"];
+        RefreshFogMode, "refresh-fog-mode", ["calls"];
         RefreshRowLate, "refresh-row-late", ["calls"];
         RefreshPaletteLate, "refresh-palette-late", ["calls"];
         RefreshLightsUnlit, "refresh-lights-unlit", ["calls"];
@@ -301,7 +371,6 @@ bends! {
         RefreshAlways, "refresh-always", ["calls"];
         RefreshWhole, "refresh-whole", ["calls"];
         RefreshOneNan, "refresh-one-nan", ["calls"];
-        RefreshTtRows, "refresh-tt-rows", ["calls"];
         RefreshBits, "refresh-bits", ["calls"];
         RefreshBitsLeft, "refresh-bits-left", ["calls"];
         RefreshMaskClean, "refresh-mask-clean", ["calls"];
@@ -345,6 +414,22 @@ bends! {
     "ff_state_set_light_enabled_at" {
         StateEnablesAny, "state-enables-any", ["calls"];
     }
+    "ff_state_set_fog_start" {
+        StateFogStartClean, "state-fog-start-clean", ["calls"];
+    }
+    "ff_state_set_fog_end" {
+        StateFogFlushes, "state-fog-flushes", ["calls"];
+    }
+    "ff_state_set_fog_density" {
+        StateFogDensityClean, "state-fog-density-clean", ["calls"];
+    }
+    "ff_state_set_ambient" {
+        StateAmbientSwapped, "state-ambient-swapped", ["calls"];
+    }
+    "ff_state_set_texture_mask" {
+        StateMaskHalf, "state-mask-half", ["calls"];
+        StateMaskClean, "state-mask-clean", ["calls"];
+    }
     "ff_state_vs_source_light_inputs" {
         StateInputsFlag, "state-inputs-flag", ["calls"];
     }
@@ -361,6 +446,7 @@ bends! {
         StateRefreshRow, "state-refresh-row", ["calls"];
         StateRefreshGuard, "state-refresh-guard", ["calls"];
         StateRefreshPreview, "state-refresh-preview", ["calls", "preview"];
+        StateRefreshFog, "state-refresh-fog", ["calls"];
         DirectionUnscaled, "direction-unscaled", ["directions"];
         DirectionLastBit, "direction-last-bit", ["directions"];
         DirectionZeroSign, "direction-zero-sign", ["directions"];

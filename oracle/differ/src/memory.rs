@@ -1,9 +1,11 @@
 //! The calls that change a state, once more on a state in memory: the same answers, and the same image and mirror after each.
 
-use cases::call::{Call, Name};
+mod changes;
+
+use cases::call::Name;
 use cases::damage::patch;
 use cases::floats::with_one_nan;
-use cases::image::{BYTES, number32};
+use cases::image::{BYTES, TAIL};
 use cases::model::refusal::{NO_IMAGE, WRONG_LENGTH};
 use cases::model::{Answer, Output};
 use cases::section::{MIRROR, ROW};
@@ -13,7 +15,7 @@ use crate::bends::Bend;
 use crate::guarded::Guarded;
 use crate::handed::unlike_image;
 use crate::host::Host;
-use crate::raw::{self, FfLight, FfState};
+use crate::raw::{self, FfState};
 use crate::report::{Difference, Outcome, Run};
 
 /// What the words around the state, the mirror and a lent number hold.
@@ -123,7 +125,7 @@ impl Memory {
         }
         match call.name {
             Name::Refresh => self.refresh(judged, world),
-            name => match c_name(name) {
+            name => match changes::c_name(name) {
                 Some(c_name) => self.change(c_name, judged, world),
                 None => Ok(()),
             },
@@ -181,62 +183,6 @@ impl Memory {
         }
     }
 
-    fn change(
-        &mut self,
-        c_name: &'static str,
-        judged: &Judged,
-        world: &World,
-    ) -> Result<(), Unlike> {
-        let mut number = [GUARD; 3];
-        self.answers(c_name, judged.status(), |memory| {
-            memory.make(&judged.call, &mut number[1])
-        })?;
-        told(c_name, &judged.answer, number)?;
-        self.compare(c_name, world)
-    }
-
-    fn make(&mut self, call: &Call, number: &mut u32) -> u32 {
-        let s: *mut FfState = &mut self.state.held;
-        let given: Vec<f32> = floats(&call.given);
-        let (items, mut n, mut enabled) = (given.as_ptr(), call.number, call.enabled);
-        match self.bend {
-            Some(Bend::StateSetsAnother) if call.name == Name::SetTransform && n > 256 => n ^= 1,
-            Some(Bend::StateLightNext) if call.name == Name::SetLightAt => n = n.wrapping_add(1),
-            Some(Bend::StateEnablesAny) if call.name == Name::SetLightEnabledAt => enabled = 1,
-            Some(Bend::StateMarkMasks) if call.name == Name::MarkFfVsDirty => n &= 63,
-            _ => {}
-        }
-        let sets = call.name == Name::SetTransform || self.bend == Some(Bend::StateMultiplySets);
-        // SAFETY: as above; an item has as many floats as its form says.
-        let status = unsafe {
-            match call.name {
-                Name::SetTransform | Name::MultiplyTransform if sets => {
-                    raw::ff_state_set_transform(s, n, items)
-                }
-                Name::MultiplyTransform => raw::ff_state_multiply_transform(s, n, items),
-                Name::SetMaterial => raw::ff_state_set_material(s, items),
-                Name::SetLightAt => raw::ff_state_set_light_at(s, n, &light(&call.given)),
-                Name::SetLightEnabledAt => raw::ff_state_set_light_enabled_at(s, n, enabled),
-                Name::VsSourceLightInputs => raw::ff_state_vs_source_light_inputs(s, number),
-                Name::MarkFfVsDirty => raw::ff_state_mark_ff_vs_dirty(s, n),
-                Name::TakeFfVsDirty => raw::ff_state_take_ff_vs_dirty(s, number),
-                _ => unreachable!("c_name knows no other"),
-            }
-        };
-        match (self.bend, call.name) {
-            (Some(Bend::StateMaterialClean), Name::SetMaterial) => {
-                self.take();
-            }
-            (Some(Bend::StateTakeLeaves), Name::TakeFfVsDirty) => {
-                // SAFETY: as above.
-                unsafe { raw::ff_state_mark_ff_vs_dirty(&mut self.state.held, *number) };
-            }
-            (Some(Bend::StateInputsFlag), Name::VsSourceLightInputs) => *number &= 0x00FF_FFFF,
-            _ => {}
-        }
-        status
-    }
-
     fn refresh(&mut self, judged: &Judged, world: &World) -> Result<(), Unlike> {
         const CALL: &str = "ff_state_refresh";
         let (length, mut key) = (judged.call.lent_length(), judged.call.key);
@@ -251,8 +197,10 @@ impl Memory {
             other.resize(length / 4 + 1, GUARD);
             (other.as_mut_ptr(), length / 4)
         };
-        if self.bend == Some(Bend::StateRefreshPreview) {
-            key.preview = 0;
+        match self.bend {
+            Some(Bend::StateRefreshPreview) => key.preview = 0,
+            Some(Bend::StateRefreshFog) => key.fog_mode &= 3,
+            _ => {}
         }
         let [a, b, c, d, e, f, g, h] = key.fields();
         let s: *mut FfState = &mut self.state.held;
@@ -333,40 +281,11 @@ fn told(call: &'static str, answer: &Answer, number: [u32; 3]) -> Result<(), Unl
     )
 }
 
-/// The call on a state in memory, where there is one beside refresh.
-const fn c_name(name: Name) -> Option<&'static str> {
-    Some(match name {
-        Name::SetTransform => "ff_state_set_transform",
-        Name::MultiplyTransform => "ff_state_multiply_transform",
-        Name::SetMaterial => "ff_state_set_material",
-        Name::SetLightAt => "ff_state_set_light_at",
-        Name::SetLightEnabledAt => "ff_state_set_light_enabled_at",
-        Name::VsSourceLightInputs => "ff_state_vs_source_light_inputs",
-        Name::MarkFfVsDirty => "ff_state_mark_ff_vs_dirty",
-        Name::TakeFfVsDirty => "ff_state_take_ff_vs_dirty",
-        _ => return None,
-    })
-}
-
-fn floats(bytes: &[u8]) -> Vec<f32> {
-    let fours = bytes.as_chunks().0.iter();
-    fours.map(|&four| f32::from_le_bytes(four)).collect()
-}
-
-/// The light of 104 bytes.
-fn light(bytes: &[u8]) -> FfLight {
-    let floats = floats(&bytes[4..]);
-    FfLight {
-        type_: number32(bytes, 0),
-        floats: core::array::from_fn(|i| floats[i]),
-    }
-}
-
 /// Slices that are not as long as an image: not written, and not read.
 pub fn lengths(run: &mut Run, host: Host) -> Outcome {
     let mut memory = Memory::fresh(host.bend);
     let before = memory.state.held.clone();
-    for length in (0..80).chain([BYTES - 1, BYTES + 1, 2 * BYTES]) {
+    for length in (0..80).chain([TAIL, BYTES - 1, BYTES + 1, 2 * BYTES]) {
         let mut image = Guarded::new(length, length);
         let kept = image.clone();
         let slice = image.slice_mut();

@@ -5,7 +5,7 @@ use cases::call::{NAMES, Name};
 use cases::image::REASONS;
 use cases::model::refusal::{STATUSES, WRONG_MASK};
 use cases::model::{Answer, Output};
-use cases::section::{FIVE, FIVE_BITS};
+use cases::section::{EIGHT, EIGHT_BITS};
 use cases::world::Judged;
 
 use crate::report::{Difference, Outcome, Run};
@@ -24,7 +24,7 @@ pub struct Tally {
     /// Images read in that were not the running one, and overwritings of the mirror.
     read_in: u64,
     overwritten: u64,
-    /// Refreshes after which rows were counted, those of them that did not write all five sections, and the sections
+    /// Refreshes after which rows were counted, those of them that did not write all eight sections, and the sections
     /// that were let off.
     counted: u64,
     partial: u64,
@@ -48,8 +48,7 @@ impl Default for Tally {
 }
 
 fn wrote_all(answer: &Answer) -> bool {
-    let five = u32::from(FIVE_BITS);
-    matches!(answer, Ok(Output::Refreshed(bits, _)) if bits & five == five)
+    matches!(answer, Ok(Output::Refreshed(bits, _)) if *bits == u32::from(EIGHT_BITS))
 }
 
 impl Tally {
@@ -69,7 +68,7 @@ impl Tally {
         if let Some(due) = judged.due {
             self.counted += 1;
             self.partial += u64::from(!wrote_all(&judged.answer));
-            self.let_off += FIVE.len() as u64 - u64::from(due.count_ones());
+            self.let_off += EIGHT.len() as u64 - u64::from(due.count_ones());
         }
     }
 
@@ -138,7 +137,7 @@ impl Tally {
     /// The note on demand 3.
     pub fn tell_counted(&self, run: &mut Run) {
         run.note(format!(
-            "refreshes after which demand 3's rows were counted: {}; not all five sections written: {}; sections let off: {}",
+            "refreshes after which demand 3's rows were counted: {}; not all eight sections written: {}; sections let off: {}",
             self.counted, self.partial, self.let_off
         ));
     }

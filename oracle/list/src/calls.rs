@@ -6,9 +6,9 @@ use cases::key::Key;
 use cases::lists;
 use cases::states::{directed, enable, set_light};
 
-use crate::draws;
 use crate::running::Running;
 use crate::{SEED, Sample};
+use crate::{draws, smoke};
 
 /// Random lists of the sample.
 const LISTS: u64 = 10;
@@ -65,7 +65,7 @@ fn cases() -> Vec<Call> {
 fn damaged(running: &mut Running) {
     for (&name, at) in NAMES
         .iter()
-        .zip([image::DIRTY, image::ZERO, BYTES - 1].iter().cycle())
+        .zip([image::ZERO, image::TAIL - 1, BYTES - 1].iter().cycle())
     {
         let kept = running.image[*at];
         running.put_byte(*at, kept | 0x40);
@@ -134,7 +134,7 @@ fn orders(running: &mut Running) {
     running.put_byte(image::ZERO, 1);
     running.calls(&calls);
     running.calls(&before_length);
-    let bits = Call::numbered(Name::MarkFfVsDirty, 64);
+    let bits = Call::numbered(Name::MarkFfVsDirty, 256);
     running.calls(&[full[1].clone(), bits]);
     running.calls(&short_slices());
     running.put_byte(image::ZERO, kept);
@@ -166,7 +166,7 @@ pub fn calls(sample: &mut Sample) {
     }
     damaged(&mut running);
     for name in [Name::ImageFresh, Name::ImageCheck] {
-        for length in [0, 1, BYTES - 4, BYTES - 1] {
+        for length in [0, 1, image::TAIL, BYTES - 4, BYTES - 1] {
             running.call_on(&Call::plain(name), length);
         }
     }
@@ -183,4 +183,5 @@ pub fn calls(sample: &mut Sample) {
     }
     draws::directions(&mut running);
     draws::previews(&mut running);
+    smoke::smoke(&mut running);
 }

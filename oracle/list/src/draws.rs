@@ -5,25 +5,33 @@ use cases::direction_inputs::VIEWS;
 use cases::floats::{INFINITY, LARGEST, NAN, NORMAL, ONE, SIGN};
 use cases::image;
 use cases::key::Key;
-use cases::section::{FIVE, MIRROR, ROW};
+use cases::section::{EIGHT, MIRROR, ROW};
 use cases::seen::{LEAST, PAST};
 use cases::states::{
-    LONG, SHORT, directed, enable, mark, refresh, set_light, set_material, set_transform,
+    LONG, SHORT, directed, enable, mark, refresh, set_light, set_material, set_texture_mask,
+    set_transform, set_value,
 };
 
 use crate::calls::light;
 use crate::running::Running;
 
-/// A state with lights of each kind, in slots and from index 8 on, and matrices and a material of unlike floats.
-fn scene() -> Vec<Call> {
+/// A state with lights of each kind, in slots and from index 8 on, and matrices, a material and fog of unlike floats. No texture
+/// stage transforms, so that the row counts tell the other sections.
+pub fn scene() -> Vec<Call> {
     let floats = |of: u32| core::array::from_fn(|i| ((of + i as u32) as f32 * 0.25).to_bits());
     let mut calls = vec![
         Call::plain(Name::ImageFresh),
         set_transform(2, &floats(3)),
         set_transform(3, &floats(40)),
+        set_transform(16, &floats(160)),
+        set_transform(17, &floats(200)),
         set_transform(256, &floats(80)),
         set_transform(258, &floats(120)),
         set_material((1..=17).flat_map(|i| (i as f32).to_le_bytes()).collect()),
+        set_value(Name::SetFogStart, 10f32.to_bits()),
+        set_value(Name::SetFogEnd, 50f32.to_bits()),
+        set_value(Name::SetFogDensity, 0.25f32.to_bits()),
+        set_value(Name::SetAmbient, 0xFF80_4020),
     ];
     for (index, type_) in [(0, 3), (3, 2), (70, 1)] {
         let mut light: [u32; LIGHT / 4] = core::array::from_fn(|i| (i as f32 * 0.5).to_bits());
@@ -90,16 +98,17 @@ pub fn frames(running: &mut Running) {
     let other = Key::of([0, 1, 0, 1, 0, 0, 1, 1]);
     let identity = core::array::from_fn(|i| if i % 5 == 0 { ONE } else { 0 });
     // Rows of no section, and each section's first: NaNs of other patterns.
-    for (row, i) in FIVE
+    for (row, i) in EIGHT
         .map(|section| section.first_row())
         .into_iter()
-        .chain([8, 14, 64, 1114])
+        .chain([14, 62, 94, 1114])
         .zip(0..)
     {
         running.put_float(4 * row, 0x7F80_0001 + i);
         running.put_float(4 * row + 3, 0xFFC0_0000 + i);
     }
     running.calls(&scene());
+    running.call(&set_texture_mask(2));
     let refusals = |running: &mut Running| {
         for lent in [0, 1, 16, MIRROR - 16, MIRROR - 1] {
             for has_rhw in [0, 1] {
@@ -131,12 +140,18 @@ pub fn frames(running: &mut Running) {
         light(3, 2),
         enable(70, 1),
         light(5, 1),
+        set_value(Name::SetFogStart, NAN | 1),
+        set_value(Name::SetFogEnd, ONE),
+        set_value(Name::SetFogDensity, SIGN),
+        set_value(Name::SetAmbient, 0x1234_5678),
+        set_texture_mask(5),
+        set_texture_mask(1),
     ]);
     for change in &changes {
         // An equal value dirties too.
         running.calls(&[change.clone(), refresh(key), change.clone(), refresh(key)]);
     }
-    for section in FIVE {
+    for section in EIGHT {
         let row = section.first_row();
         running.put_float(4 * row + 1, 0x7FA0_0000 + row as u32);
         running.calls(&[refresh(key), mark(u32::from(section.bit())), refresh(key)]);
@@ -147,7 +162,7 @@ pub fn frames(running: &mut Running) {
         Key::of([0; 8]),
         Key::of([0, 0, 0, 0, 0, 0, 0, 255]),
     ] {
-        running.calls(&[mark(31), refresh(key), mark(32), refresh(key)]);
+        running.calls(&[mark(255), refresh(key), mark(32), refresh(key)]);
     }
     // Other lights, and so another mask: an old one is refused.
     let mut old = refresh(key);
@@ -156,7 +171,7 @@ pub fn frames(running: &mut Running) {
     running.calls(&[
         enable(4, 1),
         old,
-        mark(63),
+        mark(255),
         refresh(key),
         enable(4, 0),
         refresh(key),
@@ -237,10 +252,10 @@ pub fn previews(running: &mut Running) {
         }
         let [screen, preview] = [0, 1].map(|preview| refresh(key(preview, 0)));
         running.calls(&[
-            mark(31),
+            mark(255),
             screen.clone(),
             preview.clone(),
-            mark(31),
+            mark(255),
             preview,
             screen,
             Call::plain(Name::CompactedLightMasks),

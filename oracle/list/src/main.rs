@@ -5,6 +5,7 @@
 mod calls;
 mod draws;
 mod running;
+mod smoke;
 
 use std::fmt::Write;
 use std::path::Path;

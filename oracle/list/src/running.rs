@@ -16,7 +16,7 @@ const ITEM: usize = 128;
 /// Words of an overwriting that a line each is worth.
 const OVERWRITTEN: usize = 16;
 
-/// The letter of a call, and its first argument where that is the section's bit.
+/// The letter of a call, and its first argument where that is the section's bit, or the place of a value in the image's tail.
 const fn letter(name: Name) -> (char, Option<u32>) {
     let letter = match name {
         Name::ImageFresh => 'F',
@@ -38,6 +38,11 @@ const fn letter(name: Name) -> (char, Option<u32>) {
         Name::MarkFfVsDirty => 'K',
         Name::TakeFfVsDirty => 'Q',
         Name::Refresh => 'R',
+        Name::SetFogStart => return ('H', Some(0)),
+        Name::SetFogEnd => return ('H', Some(1)),
+        Name::SetFogDensity => return ('H', Some(2)),
+        Name::SetAmbient => return ('H', Some(3)),
+        Name::SetTextureMask => return ('H', Some(4)),
         _ => match name.form().gives {
             Gives::Fill(section) => return ('U', Some(section.bit() as u32)),
             Gives::Rows(section) => return ('Z', Some(section.bit() as u32)),
@@ -149,8 +154,9 @@ impl<'a> Running<'a> {
         if judged.ran {
             self.image.copy_from_slice(self.world.image());
         }
-        let (letter, bit) = letter(call.name);
-        let arguments = [bit.unwrap_or(call.number), second(&call, length)];
+        let call = judged.call;
+        let (letter, first) = letter(call.name);
+        let arguments = [first.unwrap_or(call.number), second(&call, length)];
         let number = match judged.answer {
             Err(refusal) => {
                 self.sample.add(letter, &arguments, Err(refusal));
@@ -227,6 +233,14 @@ fn second(call: &Call, length: usize) -> u32 {
     match (call.name, call.name.form().gives) {
         (Name::ImageFresh | Name::ImageCheck, _) => length as u32,
         (Name::SetLightEnabledAt, _) => call.enabled,
+        (
+            Name::SetFogStart
+            | Name::SetFogEnd
+            | Name::SetFogDensity
+            | Name::SetAmbient
+            | Name::SetTextureMask,
+            _,
+        ) => call.number,
         (_, Gives::Item(_) | Gives::Fill(_) | Gives::Mirror) => call.lent_length() as u32,
         _ => call.given.len() as u32,
     }
@@ -243,7 +257,7 @@ pub fn unmet(sample: &Sample) -> String {
     for &name in NAMES {
         let form = name.form();
         let begins = match letter(name) {
-            (letter, Some(bit)) => format!("{letter} {bit:08x}"),
+            (letter, Some(first)) => format!("{letter} {first:08x}"),
             (letter, None) => letter.to_string(),
         };
         let lines = sample.questions.lines().zip(sample.answers.lines());

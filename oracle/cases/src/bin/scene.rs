@@ -8,9 +8,12 @@ use cases::call::{Call, Name};
 use cases::directions::{Direction, rust_rules, unit};
 use cases::eight::Eight;
 use cases::floats::{INFINITY, LARGEST, NAN, ONE, SIGN};
+use cases::image::number32;
 use cases::key::Key;
 use cases::model::Output;
-use cases::states::{LONG, SHORT, enable, set_light, set_material, set_transform};
+use cases::states::{
+    LONG, SHORT, enable, set_light, set_material, set_texture_mask, set_transform, set_value,
+};
 use cases::world::World;
 
 const WORLD: [f32; 16] = [
@@ -60,7 +63,8 @@ fn print_direction(d: Direction, packed: Direction) {
     println!("case{}", words.collect::<String>());
 }
 
-const LIT: Key = Key::of([0, 1, 1, 0, 0, 1, 0, 2]);
+/// Lit by one light, in linear fog.
+const LIT: Key = Key::of([0, 1, 1, 0, 0, 1, 3, 2]);
 
 /// A spot light of 25 different numbers.
 fn spot() -> [u32; 26] {
@@ -89,22 +93,39 @@ fn words(m: [f32; 16]) -> Words {
     m.map(f32::to_bits)
 }
 
-/// Prints some rows of a section.
-fn print(calls: &[Call], name: Name, rows: std::ops::Range<usize>) {
+/// The rows of a section, by their bits.
+fn packed(calls: &[Call], name: Name, key: Key) -> Vec<[u32; 4]> {
     let packed = World::after(calls)
-        .judge(&Call::keyed(name, LIT), None)
+        .judge(&Call::keyed(name, key), None)
         .answer;
     let Ok(Output::Bytes(bytes)) = packed else {
         panic!("refused");
     };
-    for row in &bytes.as_chunks::<16>().0[rows] {
-        let row = row.as_chunks::<4>().0;
-        let row: Vec<String> = row
-            .iter()
-            .map(|&four| format!("0x{:08X}", u32::from_le_bytes(four)))
-            .collect();
+    let rows = bytes.as_chunks::<16>().0.iter();
+    rows.map(|row| core::array::from_fn(|i| number32(row, 4 * i)))
+        .collect()
+}
+
+/// Prints some rows of a section.
+fn print(calls: &[Call], name: Name, rows: std::ops::Range<usize>) {
+    for row in &packed(calls, name, LIT)[rows] {
+        let row = row.map(|bits| format!("0x{bits:08X}"));
         println!("{}", row.join(" "));
     }
+}
+
+/// What proofs/Scene of crates/rows computes of T-05 beside the rows that are printed: mode 0, and other modes than the key's;
+/// the texture matrices of the stages whose bits are set.
+fn check(calls: &[Call]) {
+    let fog = |fog_mode| packed(calls, Name::FillFog, Key { fog_mode, ..LIT });
+    assert_eq!(fog(0), [[0; 4]]);
+    for mode in [1, 255] {
+        assert_eq!(fog(mode), fog(LIT.fog_mode));
+    }
+    let textures = packed(calls, Name::FillTt, LIT);
+    let projection = packed(calls, Name::FillProj, LIT);
+    assert_eq!(textures.len(), 12);
+    assert!(textures[..4] == projection && textures[8..] == projection);
 }
 
 fn main() {
@@ -117,11 +138,25 @@ fn main() {
         set_material(material),
         set_light(0, &spot()),
         enable(0, 1),
+        // The second stage's bit is clear.
+        set_transform(16, &words(PROJECTION)),
+        set_transform(17, &words(WORLD)),
+        set_transform(18, &words(PROJECTION)),
+        set_transform(19, &words(VIEW)),
+        set_texture_mask(5),
+        set_value(Name::SetFogStart, 2f32.to_bits()),
+        set_value(Name::SetFogEnd, 3f32.to_bits()),
+        set_value(Name::SetFogDensity, 5f32.to_bits()),
+        set_value(Name::SetAmbient, 0xFF80_4020),
     ];
+    check(&calls);
     print(&calls, Name::FillProj, 0..4);
     print(&calls, Name::FillWv, 0..4);
     print(&calls, Name::FillPalette, 4..8);
+    print(&calls, Name::FillTt, 4..8);
+    print(&calls, Name::FillFog, 0..1);
     print(&calls, Name::FillMaterial, 0..5);
+    print(&calls, Name::FillAmbient, 0..1);
     print(&calls, Name::FillLights, 0..6);
     let ordered = |view: [f32; 16], position, direction| {
         let calls = [

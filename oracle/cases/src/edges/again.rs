@@ -3,7 +3,7 @@
 use crate::call::{Call, LIGHT, MATERIAL, MATRIX, Name};
 use crate::floats::{NAN, ONE};
 use crate::key::Key;
-use crate::states::{enable, set_light, set_material, set_transform};
+use crate::states::{enable, set_light, set_material, set_texture_mask, set_transform, set_value};
 
 /// Floats that are all unlike, a NaN of another pattern among them.
 fn floats<const N: usize>() -> [u32; N] {
@@ -38,6 +38,19 @@ fn changes() -> Vec<Call> {
         changes.push(enable(index, 0));
         changes.push(set_light(index, &light));
     }
+    for value in [NAN | 1, 0, ONE] {
+        for name in [
+            Name::SetFogStart,
+            Name::SetFogEnd,
+            Name::SetFogDensity,
+            Name::SetAmbient,
+        ] {
+            changes.push(set_value(name, value));
+        }
+    }
+    for mask in [0, 1, 0x85, 0] {
+        changes.push(set_texture_mask(mask));
+    }
     // The default light by an enable, as often.
     for index in [1, 71] {
         changes.extend([enable(index, 0), enable(index, 1)]);
@@ -56,7 +69,7 @@ pub fn list() -> Vec<Call> {
         calls.push(change.clone());
         calls.push(Call::plain(Name::TakeFfVsDirty));
         calls.push(change.clone());
-        calls.push(Call::numbered(Name::MarkFfVsDirty, 63));
+        calls.push(Call::numbered(Name::MarkFfVsDirty, 255));
         calls.push(refresh.clone());
         calls.push(change);
         calls.push(refresh.clone());

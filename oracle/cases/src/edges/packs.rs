@@ -5,7 +5,7 @@ use super::states::states;
 use crate::call::{Call, Gives, Length, Name};
 use crate::damage::Damage;
 use crate::floats::NAN;
-use crate::image::{BYTES, REGIONS};
+use crate::image::{BYTES, FOG_DENSITY, FOG_END, FOG_START, REGIONS, TEXTURES};
 use crate::key::Key;
 use crate::keys::SET;
 use crate::lengths::wrong_lengths;
@@ -81,23 +81,23 @@ fn keyed() -> Vec<Call> {
     packs
 }
 
-/// The call with wrong lengths. Under the state's own mask the right one is that of so many lights as it has: the
-/// lengths about each are tried.
+/// The call with wrong lengths. Under the state's own mask the right one is that of so many lights as it has, and of TT that of
+/// so many stages: the lengths about each are tried.
 fn around(call: &Call) -> Vec<Call> {
     let lights = if call.own_mask.is_some() { 0..9 } else { 0..1 };
+    let stages = if call.name == Name::FillTt {
+        0..=TEXTURES
+    } else {
+        0..=0
+    };
+    let low = |bits: usize| ((1u16 << bits) - 1) as u8;
     let mut lengths: Vec<usize> = lights
-        .map(|lights| Key {
-            light_active_mask: ((1u16 << lights) - 1) as u8,
-            ..call.key
-        })
-        .flat_map(|key| {
-            wrong_lengths(
-                Call {
-                    key,
-                    ..call.clone()
-                }
-                .right_length(),
-            )
+        .flat_map(|lights| stages.clone().map(move |stages| (lights, stages)))
+        .flat_map(|(lights, stages)| {
+            let mut call = call.clone();
+            call.key.light_active_mask = low(lights);
+            call.texture_mask = low(stages);
+            wrong_lengths(call.right_length())
         })
         .collect();
     lengths.sort_unstable();
@@ -113,9 +113,9 @@ fn around(call: &Call) -> Vec<Call> {
 fn damaged() -> Vec<Call> {
     let lengths = [0, BYTES - 1, BYTES + 1].map(Damage::length);
     let bytes = REGIONS.map(|(start, _)| Damage::bytes(start, &[0xFF; 4]));
-    let nans = REGIONS[..5]
-        .iter()
-        .map(|&(start, _)| Damage::word(start, NAN | 1));
+    let floats = REGIONS[..5].iter().map(|&(start, _)| start);
+    let floats = floats.chain([FOG_START, FOG_END, FOG_DENSITY]);
+    let nans = floats.map(|at| Damage::word(at, NAN | 1));
     let damages: Vec<Damage> = lengths.into_iter().chain(bytes).chain(nans).collect();
     let mut packs = Vec::new();
     for name in names() {

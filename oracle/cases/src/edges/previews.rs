@@ -142,8 +142,8 @@ fn limits() -> Vec<Call> {
     for before in FLAGS {
         for after in FLAGS {
             let [before, after] = [before, after].map(|preview| refresh(Key { preview, ..KEY }));
-            for bits in [0, 8, 30, 31] {
-                calls.extend([mark(31), before.clone(), mark(bits), after.clone()]);
+            for bits in [0, 8, 254, 255] {
+                calls.extend([mark(255), before.clone(), mark(bits), after.clone()]);
                 calls.push(after.clone());
             }
         }
@@ -168,7 +168,7 @@ fn changes() -> Vec<Call> {
     }
     // Fewer and fewer, until none is left: the mask is another one in the end.
     for index in INDICES[1] {
-        calls.extend([enable(index, 0), mark(31), preview.clone()]);
+        calls.extend([enable(index, 0), mark(255), preview.clone()]);
     }
     calls
 }

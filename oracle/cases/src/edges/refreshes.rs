@@ -1,21 +1,24 @@
 //! Refreshes: every set of bits, every count, every mask, and each refusal alone and before the others.
 
-use super::states::kinds_of_lights;
+use super::states::{SMOKE_MASK, smoke};
 use crate::call::{Call, Length, Name};
 use crate::damage::{Damage, Patch};
+use crate::floats::ONE;
 use crate::image;
 use crate::key::Key;
 use crate::keys::SET;
 use crate::lengths::wrong_lengths;
-use crate::section::{FIVE, MIRROR, ROW};
-use crate::states::{enable, mark, refresh, set_light, set_material, set_transform};
+use crate::section::{EIGHT, MIRROR, ROW};
+use crate::states::{
+    enable, mark, refresh, set_light, set_material, set_texture_mask, set_transform, set_value,
+};
 
-/// Lit with specular, and two matrices.
-const KEY: Key = Key::of([0, 1, 1, 0, 0, 0, 0, 2]);
+/// Lit with specular, in fog, and two matrices.
+const KEY: Key = Key::of([0, 1, 1, 0, 0, 0, 3, 2]);
 
 pub fn lists() -> Vec<Vec<Call>> {
     let mut lists = vec![masks(), counts(), frames(), first_refresh()];
-    lists.extend(SETS.map(|(key, own_mask)| bits(kinds_of_lights(), key, own_mask)));
+    lists.extend(SETS.map(|(key, own_mask)| bits(smoke(), key, own_mask)));
     lists.extend([true, false].map(refusals));
     lists
 }
@@ -43,7 +46,7 @@ const SETS: [(Key, Option<u8>); 5] = [
 
 /// Every set of bits, on a mirror that is all overwritten before; `calls` make the state.
 pub fn bits(mut calls: Vec<Call>, key: Key, own_mask: Option<u8>) -> Vec<Call> {
-    for bits in 0..64 {
+    for bits in 0..256 {
         calls.push(Call::plain(Name::TakeFfVsDirty));
         calls.push(mark(bits));
         let refresh = Call {
@@ -62,7 +65,7 @@ pub fn bits(mut calls: Vec<Call>, key: Key, own_mask: Option<u8>) -> Vec<Call> {
 
 /// Every mask on lights that light, with LIGHTS dirty and without.
 fn masks() -> Vec<Call> {
-    let mut calls = kinds_of_lights();
+    let mut calls = smoke();
     for light_active_mask in 0..=255 {
         let refresh = Call::keyed(
             Name::Refresh,
@@ -78,10 +81,10 @@ fn masks() -> Vec<Call> {
 
 /// Every count, indexed or not; all are marked before, so that each is counted.
 fn counts() -> Vec<Call> {
-    let mut calls = kinds_of_lights();
+    let mut calls = smoke();
     for vertex_blend_count in 0..=255 {
         for vertex_blend_indexed in [0, SET[usize::from(vertex_blend_count) % 4]] {
-            calls.push(mark(31));
+            calls.push(mark(255));
             calls.push(refresh(Key {
                 vertex_blend_count,
                 vertex_blend_indexed,
@@ -98,19 +101,25 @@ fn frames() -> Vec<Call> {
     let m = core::array::from_fn(|i| (i as f32 * 0.5 - 1.0).to_bits());
     let mut light = core::array::from_fn(|i| (i as f32 * 0.25).to_bits());
     light[0] = 2;
-    let mut calls = kinds_of_lights();
+    let mut calls = smoke();
     calls.push(refresh(KEY));
-    let states = [2, 3, 16, 256, 257, 258].map(|state| set_transform(state, &m));
+    let states = [2, 3, 16, 18, 19, 256, 257, 258].map(|state| set_transform(state, &m));
     let others = [
         set_material((0..17).flat_map(|i| (i as f32).to_le_bytes()).collect()),
         set_light(7, &light),
         enable(4, 0),
+        set_value(Name::SetFogStart, ONE),
+        set_value(Name::SetFogEnd, ONE),
+        set_value(Name::SetFogDensity, ONE),
+        set_value(Name::SetAmbient, 0x1234_5678),
+        set_texture_mask(0x80),
+        set_texture_mask(SMOKE_MASK),
     ];
     for change in states.into_iter().chain(others) {
         calls.extend([change, refresh(KEY), refresh(KEY)]);
     }
-    for section in FIVE {
-        let place = section.place(KEY);
+    for section in EIGHT {
+        let place = section.place(KEY, SMOKE_MASK);
         for at in [place.start, place.end.max(ROW) - ROW, place.end] {
             let overwritten = Call {
                 overwrite: vec![(at, vec![0xFF; ROW])],
@@ -142,7 +151,7 @@ fn first_refresh() -> Vec<Call> {
 
 /// Each set of no image, a wrong length, transformed vertices and another mask, with LIGHTS dirty or all clean.
 fn refusals(dirty: bool) -> Vec<Call> {
-    let mut calls = kinds_of_lights();
+    let mut calls = smoke();
     if !dirty {
         calls.push(refresh(KEY));
     }

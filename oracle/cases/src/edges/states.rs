@@ -1,19 +1,46 @@
 //! States that are the same for every seed.
 
 use super::previews::nine;
-use crate::call::{Call, LIGHT};
+use crate::call::{Call, LIGHT, Name};
 use crate::floats::{LARGEST, NAN, ONE, SIGN};
-use crate::states::{LONG, SHORT, directed, enable, set_light, set_material, set_transform};
+use crate::states::{
+    LONG, SHORT, directed, enable, set_light, set_material, set_texture_mask, set_transform,
+    set_value,
+};
 
 /// The calls that make each of them.
 #[must_use]
 pub fn states() -> Vec<Vec<Call>> {
     vec![
         kinds_of_lights(),
+        smoke(),
         directions(),
         vec![enable(0, 1), enable(5, 1), enable(70, 1)],
         nine(),
     ]
+}
+
+/// The texture mask of the state below: the second stage's bit is clear.
+pub const SMOKE_MASK: u8 = 5;
+
+/// The lights below, and fog, an ambient colour, eight texture matrices and a texture mask, no number twice.
+#[must_use]
+pub fn smoke() -> Vec<Call> {
+    let mut calls = kinds_of_lights();
+    for (name, float) in [
+        (Name::SetFogStart, 1.5f32),
+        (Name::SetFogEnd, 2.5),
+        (Name::SetFogDensity, -3.5),
+    ] {
+        calls.push(set_value(name, float.to_bits()));
+    }
+    calls.push(set_value(Name::SetAmbient, 0xFF80_4020));
+    for stage in 0..8 {
+        let m = core::array::from_fn(|i| ((100 + 16 * stage + i as u32) as f32).to_bits());
+        calls.push(set_transform(16 + stage, &m));
+    }
+    calls.push(set_texture_mask(SMOKE_MASK));
+    calls
 }
 
 /// Document 01's run-only case on each axis; others of which document 02 (T-04) says another thing than the Rust; one of zeros,

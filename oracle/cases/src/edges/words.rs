@@ -5,7 +5,7 @@ use crate::call::{Call, LIGHT, MATERIAL, MATRIX, Name};
 use crate::damage::Damage;
 use crate::floats::{NAN, SIGN};
 use crate::image::{self, BYTES, ROOM, SLOTS};
-use crate::states::{enable, set_light, set_material, set_transform};
+use crate::states::{enable, set_light, set_material, set_texture_mask, set_transform, set_value};
 use crate::world::World;
 
 /// Two other NaNs, and a zero of the other sign.
@@ -42,7 +42,7 @@ fn damaged(image: &[u8], words: &[(usize, u32)]) -> Vec<Call> {
     calls
 }
 
-/// Every matrix, the material, every slot and every entry, no float of them 0 or NaN.
+/// Every matrix, the material, every slot and every entry, and the tail, no float of them 0 or NaN.
 fn everything() -> Vec<Call> {
     fn floats<const N: usize>(of: u32) -> [u32; N] {
         core::array::from_fn(|i| ((of + 1 + i as u32) as f32).to_bits())
@@ -64,5 +64,14 @@ fn everything() -> Vec<Call> {
         calls.push(set_light(3 * index % 8 + 8 * (index / 8), &light));
         calls.push(enable(3 * index % 8 + 8 * (index / 8), 1));
     }
+    for (name, of) in [
+        (Name::SetFogStart, 0),
+        (Name::SetFogEnd, 1),
+        (Name::SetFogDensity, 2),
+        (Name::SetAmbient, 3),
+    ] {
+        calls.push(set_value(name, floats::<1>(of)[0]));
+    }
+    calls.push(set_texture_mask(0x85));
     calls
 }

@@ -21,7 +21,7 @@ impl List<'_> {
     }
 
     fn change(&mut self) -> Damage {
-        match self.random.below(12) {
+        match self.random.below(14) {
             0 => self.image_length(),
             1 => self.byte_field(),
             2 => self.wide_field(),
@@ -30,14 +30,16 @@ impl List<'_> {
             6 => self.unused_entry(),
             7 => self.any_byte(),
             8 => self.full_table(),
+            9 | 10 => self.tail_field(),
             _ => self.float_field(),
         }
     }
 
     fn image_length(&mut self) -> Damage {
-        const LENGTHS: [usize; 12] = [
+        const LENGTHS: [usize; 13] = [
             0,
             1,
+            image::TAIL,
             BYTES - 1,
             BYTES + 1,
             BYTES - 4,
@@ -152,8 +154,26 @@ impl List<'_> {
             bytes.extend(index.to_le_bytes());
             bytes.extend([0; image::ENTRY - 4]);
         }
-        bytes.resize(BYTES - image::COUNT, 0);
+        bytes.resize(image::TAIL - image::COUNT, 0);
         Damage::bytes(image::COUNT, &bytes)
+    }
+
+    /// A number of the tail: a float, the colour or the texture mask.
+    fn tail_field(&mut self) -> Damage {
+        match self.random.below(5) {
+            0 => Damage::word(image::AMBIENT, self.color()),
+            1 => {
+                let mask = match self.random.below(4) {
+                    0 => self
+                        .random
+                        .pick(&[255, 256, 257, 511, 0x0100_0000, 0x8000_0001]),
+                    1 => self.random.word(),
+                    _ => self.texture_mask(),
+                };
+                Damage::word(image::TEXTURE_MASK, mask)
+            }
+            at => Damage::word(image::FOG_START + 4 * (at as usize - 2), self.image_float()),
+        }
     }
 
     /// A float of a matrix or of the material.

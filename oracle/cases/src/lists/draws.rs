@@ -4,7 +4,7 @@ use super::List;
 use crate::call::{Call, Name};
 use crate::damage::Patch;
 use crate::keys;
-use crate::section::{FIVE, FIVE_BITS, MIRROR, ROW, ROWS};
+use crate::section::{EIGHT, EIGHT_BITS, MIRROR, ROW, ROWS};
 
 impl List<'_> {
     /// Another key for the refreshes from now on: of a draw that is not transformed, under the state's own mask or 0.
@@ -22,11 +22,11 @@ impl List<'_> {
 
     pub(super) fn refresh(&mut self) -> Call {
         if self.random.chance(8) {
-            // To a preview or from one, or in more than that.
-            if self.random.chance(3) {
-                self.key.preview = u8::from(self.key.preview == 0);
-            } else {
-                self.change_key();
+            // To a preview or from one, to another fog mode, or in more than that.
+            match self.random.below(4) {
+                0 => self.key.preview = u8::from(self.key.preview == 0),
+                1 => self.key.fog_mode = keys::fog(self.random),
+                _ => self.change_key(),
             }
             self.owe();
             if let Some(mark) = self.marking() {
@@ -35,7 +35,6 @@ impl List<'_> {
         }
         let mut call = Call::keyed(Name::Refresh, self.key);
         call.own_mask = self.own_mask;
-        call.key.fog_mode = keys::fog(self.random);
         if self.random.chance(12) {
             call.key.has_rhw = self.random.pick(&keys::SET);
         }
@@ -46,10 +45,10 @@ impl List<'_> {
         call
     }
 
-    /// From now on the five sections are to be marked before the next refresh, in a list that keeps to it.
+    /// From now on the eight sections are to be marked before the next refresh, in a list that keeps to it.
     pub(super) fn owe(&mut self) {
         if self.keeps && !self.random.chance(6) {
-            self.owed = FIVE_BITS;
+            self.owed = EIGHT_BITS;
         }
     }
 
@@ -59,8 +58,8 @@ impl List<'_> {
             return None;
         }
         let mut bits = match self.random.below(4) {
-            0 => self.random.below(64),
-            _ => 63,
+            0 => self.random.below(256),
+            _ => 255,
         };
         if self.random.chance(2) {
             bits &= u32::from(self.owed);
@@ -96,8 +95,8 @@ impl List<'_> {
             0 => self.random.below(ROWS as u32),
             1 => self.random.below(120),
             _ => {
-                let section = self.random.pick(&FIVE);
-                let rows = section.rows(self.key).max(1) as i32;
+                let section = self.random.pick(&EIGHT);
+                let rows = section.rows(self.key, self.texture_mask).max(1) as i32;
                 let row = section.first_row() as i32 + self.random.between(-1, rows);
                 row.clamp(0, ROWS as i32 - 1) as u32
             }

@@ -80,9 +80,9 @@ impl List<'_> {
             1 => 1 << self.random.below(32),
             2 => self
                 .random
-                .pick(&[62, 63, 64, 65, 127, 128, 319, 0x8000_0003]),
+                .pick(&[63, 64, 128, 254, 255, 256, 257, 511, 0x8000_0003]),
             3 => self.random.word(),
-            _ => self.random.below(64),
+            _ => self.random.below(256),
         }
     }
 
@@ -113,6 +113,26 @@ impl List<'_> {
             _ => (self.random.word() & 0x007F_FFFF).max(1),
         };
         0x7F80_0000 | (self.random.word() & 0x8000_0000) | payload
+    }
+
+    /// A D3DCOLOR: each of its bytes at a border, or any.
+    pub(super) fn color(&mut self) -> u32 {
+        if self.random.chance(4) {
+            return self.random.word();
+        }
+        u32::from_le_bytes(core::array::from_fn(|_| {
+            self.random.pick(&[0, 1, 0x40, 0x7F, 0x80, 0xFE, 0xFF])
+        }))
+    }
+
+    /// A texture mask, of few stages mostly.
+    pub(super) fn texture_mask(&mut self) -> u32 {
+        match self.random.below(4) {
+            0 => 0,
+            1 => 1 << self.random.below(8),
+            2 => self.random.below(16),
+            _ => self.random.below(256),
+        }
     }
 
     pub(super) fn floats(&mut self, bytes: usize) -> Vec<u8> {

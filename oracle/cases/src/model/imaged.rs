@@ -5,7 +5,7 @@ use mtld3d_types::{D3DMATRIX, D3DTS_TEXTURE0, D3DTS_WORLD};
 use super::Model;
 use crate::call::MATRIX;
 use crate::image::{self, BYTES, MATRICES, SLOTS, TEXTURES};
-use crate::records;
+use crate::{records, render_states};
 
 /// The transform states.
 fn states() -> impl Iterator<Item = u32> {
@@ -41,6 +41,8 @@ impl Model {
             model.overflow.insert(index);
             model.bring_light(index, &entry[8..], image::number32(entry, 4) != 0);
         }
+        model.render_states = render_states::of_image(bytes);
+        render_states::set_texture_mask(&mut model.rust, bytes[image::TEXTURE_MASK]);
         model.rust.take_ff_vs_dirty();
         model.mark(bytes[image::DIRTY]);
         model
@@ -83,7 +85,10 @@ impl Model {
         bytes[image::HIGHEST..image::COUNT].copy_from_slice(&highest.to_le_bytes());
         let count = self.overflow.len() as u16;
         bytes[image::COUNT..image::ENTRIES].copy_from_slice(&count.to_le_bytes());
-        let entries = bytes[image::ENTRIES..].chunks_mut(image::ENTRY);
+        render_states::put(&self.render_states, bytes);
+        let mask = u32::from(self.texture_mask());
+        bytes[image::TEXTURE_MASK..].copy_from_slice(&mask.to_le_bytes());
+        let entries = bytes[image::ENTRIES..image::TAIL].chunks_mut(image::ENTRY);
         let mut stored = self.overflow.iter();
         for entry in entries {
             let Some(&index) = stored.next() else {

@@ -15,7 +15,7 @@ const WV: u8 = 1;
 const LIGHTS: u8 = 8;
 
 /// Leaves the bits as they were where the call stored what was there already.
-fn keep_clean(image: &mut [u8], before: &[u8]) {
+pub fn keep_clean(image: &mut [u8], before: &[u8]) {
     let stored = |image: &[u8]| [&image[..image::DIRTY], &image[image::ZERO..]].concat();
     if stored(image) == stored(before) {
         image[image::DIRTY] = before[image::DIRTY];
@@ -218,8 +218,10 @@ pub fn change_light(bend: Bend, call: &Call, mut held: Held<'_>) -> u32 {
 
 pub fn dirty(bend: Bend, call: &Call, mut held: Held<'_>) -> u32 {
     match bend {
-        Bend::MarkSeventh if (64..128).contains(&call.number) => {
-            let number = call.number & 63;
+        // Six bits, as before T-05, or eight and those that are cut off.
+        Bend::MarkSeventh if (64..256).contains(&call.number) => return UNKNOWN_BITS,
+        Bend::MarkNinth if (256..512).contains(&call.number) => {
+            let number = call.number & 255;
             return held.call(&Call {
                 number,
                 ..call.clone()
@@ -232,14 +234,14 @@ pub fn dirty(bend: Bend, call: &Call, mut held: Held<'_>) -> u32 {
                 ..call.clone()
             });
         }
-        Bend::MarkBitsBeforeImage if call.number > 63 => return UNKNOWN_BITS,
+        Bend::MarkBitsBeforeImage if call.number > 255 => return UNKNOWN_BITS,
         _ => {}
     }
     let before = held.lent.image.to_vec();
     let status = held.call(call);
     match bend {
         Bend::MarkRefusalMarks if status == UNKNOWN_BITS => {
-            held.lent.image[image::DIRTY] |= (call.number & 63) as u8;
+            held.lent.image[image::DIRTY] |= call.number as u8;
         }
         Bend::MarkReplaces if status == ACCEPTED => {
             held.lent.image[image::DIRTY] = call.number as u8;

@@ -29,7 +29,6 @@ pub fn image_fresh(bend: Bend, call: &Call, mut held: Held<'_>) -> u32 {
 /// The reason that such a version forgets.
 fn forgotten(bend: Bend) -> Option<Reason> {
     Some(match bend {
-        Bend::CheckDirty => Reason::Dirty,
         Bend::CheckZero => Reason::Zero,
         Bend::CheckHighest => Reason::Highest,
         Bend::CheckCount => Reason::Count,
@@ -39,6 +38,7 @@ fn forgotten(bend: Bend) -> Option<Reason> {
         Bend::CheckEnabled => Reason::Enabled,
         Bend::CheckUndefined => Reason::Undefined,
         Bend::CheckNan => Reason::Nan,
+        Bend::CheckMask => Reason::Mask,
         Bend::CheckLength => Reason::Length,
         _ => return None,
     })
@@ -46,12 +46,46 @@ fn forgotten(bend: Bend) -> Option<Reason> {
 
 pub fn image_check(bend: Bend, call: &Call, mut held: Held<'_>) -> u32 {
     let status = held.call(call);
+    let reasons = image::reasons(held.lent.image);
     if let Some(reason) = forgotten(bend)
-        && image::reasons(held.lent.image) == [reason]
+        && reasons == [reason]
     {
         return ACCEPTED;
     }
+    if bend == Bend::CheckOldLength && held.lent.image.len() == image::TAIL {
+        return ACCEPTED;
+    }
+    // A version that does not look at this float; the others are right.
+    let unseen = |image: &[u8], at: usize| {
+        let float = image::number32(image, at);
+        reasons == [Reason::Nan] && is_nan(float) && float != NAN
+    };
     match held.whole() {
+        Some(image) if bend == Bend::CheckFogStart && unseen(image, image::FOG_START) => ACCEPTED,
+        Some(image) if bend == Bend::CheckFogEnd && unseen(image, image::FOG_END) => ACCEPTED,
+        Some(image) if bend == Bend::CheckFogDensity && unseen(image, image::FOG_DENSITY) => {
+            ACCEPTED
+        }
+        // Dirty bytes that are wrongly refused: 255, and all above the six bits of before T-05.
+        Some(image) if bend == Bend::CheckDirty && image[image::DIRTY] == 255 => NO_IMAGE,
+        Some(image) if bend == Bend::CheckDirtySix && image[image::DIRTY] > 63 => NO_IMAGE,
+        // The mask's last byte alone is looked at.
+        Some(image) if bend == Bend::CheckMaskByte && reasons == [Reason::Mask] => {
+            if image[image::TEXTURE_MASK + 3] == 0 {
+                ACCEPTED
+            } else {
+                status
+            }
+        }
+        // A colour is a number, and may have the bits of any NaN.
+        Some(image) if bend == Bend::CheckColorNan => {
+            let bits = image::number32(image, image::AMBIENT);
+            if is_nan(bits) && bits != NAN {
+                NO_IMAGE
+            } else {
+                status
+            }
+        }
         // A type is a number, and may have the bits of any NaN.
         Some(image) if bend == Bend::CheckType => {
             let types = (0..image::SLOTS).map(|i| image::number32(image, image::slot(i)));

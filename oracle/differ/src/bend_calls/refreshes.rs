@@ -5,13 +5,10 @@ use cases::floats::with_one_nan;
 use cases::image::{self, number32};
 use cases::key::Key;
 use cases::model::refusal::{TRANSFORMED, WRONG_LENGTH, WRONG_MASK};
-use cases::section::{FIVE_BITS, MIRROR, ROW, Section};
+use cases::section::{EIGHT_BITS, MIRROR, ROW, Section};
 
 use super::{ACCEPTED, Held, past, previews};
 use crate::bends::Bend;
-
-/// Document 01's rows of texture transforms, which a refresh leaves alone.
-const TEXTURES: usize = 63;
 
 pub fn refresh(bend: Bend, call: &Call, mut held: Held<'_>) -> u32 {
     if let Some(answer) = instead(bend, call, &mut held) {
@@ -20,6 +17,7 @@ pub fn refresh(bend: Bend, call: &Call, mut held: Held<'_>) -> u32 {
     let before = Before {
         mirror: held.lent.out.to_vec(),
         bits: held.lent.image.get(image::DIRTY).copied().unwrap_or(0),
+        mask: held.texture_mask(),
     };
     let status = held.call(&other_key(bend, call, &held));
     match status {
@@ -33,6 +31,7 @@ pub fn refresh(bend: Bend, call: &Call, mut held: Held<'_>) -> u32 {
 struct Before {
     mirror: Vec<u8>,
     bits: u8,
+    mask: u8,
 }
 
 /// What such a version takes the key for.
@@ -49,6 +48,7 @@ fn other_key(bend: Bend, call: &Call, held: &Held<'_>) -> Call {
         Bend::RefreshRhwLow => key.has_rhw &= 1,
         Bend::RefreshPreviewIgnored => key.preview = 0,
         Bend::RefreshPreviewLow => key.preview &= 1,
+        Bend::RefreshFogMode => key.fog_mode = 0,
         _ => {}
     }
     call
@@ -88,6 +88,9 @@ fn forgotten(bend: Bend) -> Option<Section> {
         Bend::RefreshForgetsMaterial => Section::Material,
         Bend::RefreshForgetsLights => Section::Lights,
         Bend::RefreshForgetsPalette => Section::Palette,
+        Bend::RefreshForgetsTt => Section::Tt,
+        Bend::RefreshForgetsFog => Section::Fog,
+        Bend::RefreshForgetsAmbient => Section::Ambient,
         _ => return None,
     })
 }
@@ -96,7 +99,7 @@ fn forgotten(bend: Bend) -> Option<Section> {
 fn after(bend: Bend, key: Key, before: &Before, held: &mut Held<'_>) {
     let out = &mut *held.lent.out;
     let restore = |out: &mut [u8], section: Section| {
-        let place = section.place(key);
+        let place = section.place(key, before.mask);
         out[place.clone()].copy_from_slice(&before.mirror[place]);
     };
     if let Some(section) = forgotten(bend) {
@@ -106,17 +109,23 @@ fn after(bend: Bend, key: Key, before: &Before, held: &mut Held<'_>) {
         Bend::RefreshKeepsBits => held.lent.image[image::DIRTY] = before.bits,
         Bend::RefreshRowLate => late(out, before, key, Section::Material),
         Bend::RefreshPaletteLate => late(out, before, key, Section::Palette),
+        Bend::RefreshTtLate => late(out, before, key, Section::Tt),
+        // The last stage is left out.
+        Bend::RefreshTtStages if before.bits & Section::Tt.bit() != 0 && before.mask != 0 => {
+            let end = Section::Tt.place(key, before.mask).end;
+            out[end - 4 * ROW..end].copy_from_slice(&before.mirror[end - 4 * ROW..end]);
+        }
         Bend::RefreshLightsUnlit if key.lighting_enabled == 0 => restore(out, Section::Lights),
         // Later it only reports the bits.
         Bend::RefreshFirstOnly if before.bits != image::ALL_DIRTY => {
             out.copy_from_slice(&before.mirror);
         }
         // Every section, whatever the bits.
-        Bend::RefreshAlways => again(key, FIVE_BITS, held),
+        Bend::RefreshAlways => again(key, EIGHT_BITS, held),
         // The lights of a preview, whatever the bits.
         Bend::RefreshPreviewWrites if key.preview != 0 => again(key, Section::Lights.bit(), held),
         Bend::RefreshWhole => {
-            let end = Section::Palette.place(key).end;
+            let end = Section::Palette.place(key, before.mask).end;
             out[end..].fill(0);
         }
         Bend::RefreshOneNan => {
@@ -124,16 +133,14 @@ fn after(bend: Bend, key: Key, before: &Before, held: &mut Held<'_>) {
                 *four = with_one_nan(number32(four, 0)).to_le_bytes();
             }
         }
-        Bend::RefreshTtRows if before.bits & Section::Tt.bit() != 0 => {
-            out[ROW * TEXTURES..ROW * (TEXTURES + 4)].fill(0);
-        }
-        Bend::RefreshBits => *held.lent.number &= u32::from(FIVE_BITS),
+        // The six of before T-05.
+        Bend::RefreshBits => *held.lent.number &= 63,
         Bend::RefreshBitsLeft => *held.lent.number = 0,
         Bend::RefreshGuard => past(out),
         Bend::RefreshPreviewLast
             if key.preview != 0 && before.bits & Section::Lights.bit() != 0 =>
         {
-            previews::put_last(held, Section::Lights.place(key));
+            previews::put_last(held, Section::Lights.place(key, before.mask));
         }
         _ => {}
     }
@@ -149,7 +156,7 @@ fn again(key: Key, bits: u8, held: &mut Held<'_>) {
 
 /// A section that is written a row below its first.
 fn late(out: &mut [u8], before: &Before, key: Key, section: Section) {
-    let place = section.place(key);
+    let place = section.place(key, before.mask);
     if before.bits & section.bit() != 0 && !place.is_empty() && place.end + ROW <= MIRROR {
         out.copy_within(place.clone(), place.start + ROW);
         out[place.start..place.start + ROW]

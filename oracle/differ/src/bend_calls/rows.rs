@@ -7,7 +7,7 @@ use cases::key::Key;
 use cases::model::refusal::{TRANSFORMED, WRONG_LENGTH, WRONG_MASK};
 use cases::section::ROW;
 
-use super::{ACCEPTED, Held, lights, past, previews};
+use super::{ACCEPTED, Held, lights, past, previews, smoke};
 use crate::bends::Bend;
 use crate::host;
 
@@ -84,6 +84,18 @@ fn other_key(bend: Bend, key: Key) -> Key {
             ..key
         },
         Bend::LightsPreviewIgnored => Key { preview: 0, ..key },
+        Bend::FogAlways => Key {
+            fog_mode: key.fog_mode.max(1),
+            ..key
+        },
+        Bend::FogLinearOnly => Key {
+            fog_mode: u8::from(key.fog_mode == 3),
+            ..key
+        },
+        Bend::FogModeLow => Key {
+            fog_mode: key.fog_mode & 3,
+            ..key
+        },
         Bend::LightsPreviewLow => Key {
             preview: key.preview & 1,
             ..key
@@ -107,7 +119,8 @@ fn instead(bend: Bend, call: &Call, held: &mut Held<'_>) -> Option<u32> {
         }
         Bend::LightsAnyLength if key.light_active_mask == 0 => Some(ACCEPTED),
         Bend::PaletteAnyLength if key.vertex_blend_count == 0 => Some(ACCEPTED),
-        Bend::TtStages if held.lent.out.len() == 8 * 4 * ROW => Some(ACCEPTED),
+        Bend::TtStages if wrong_length && held.lent.out.len() == 8 * 4 * ROW => Some(ACCEPTED),
+        Bend::FogAnyLength if wrong_length => Some(ACCEPTED),
         Bend::ProjLonger if held.lent.out.len() == 5 * ROW => {
             let (first, _) = core::mem::take(&mut held.lent.out).split_at_mut(4 * ROW);
             held.lent.out = first;
@@ -205,6 +218,7 @@ fn after(bend: Bend, key: Key, held: &mut Held<'_>) {
         Bend::LightsPreviewLast if key.preview != 0 => {
             previews::put_last(held, 0..held.lent.out.len());
         }
+        _ if smoke::after(bend, key, held) => {}
         _ => lights::after(bend, held),
     }
 }

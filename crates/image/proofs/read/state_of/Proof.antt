@@ -60,25 +60,38 @@ u8-at-requires-3 c κs =
     let entry = c .before .before .before .before .before .before .before .before .before .before .before .before .before .before .before in
     le-trans (lit≤ tt) (entry .pre)
 
+states-at-requires : tie.Need-states-at-requires
+states-at-requires c κs =
+    let entry = c .before .before .before .before .before .before .before .before .before .before .before .before .before .before .before .before in
+    le-trans (lit≤ tt) (entry .pre)
+
+u8-at-requires-4 : tie.Need-u8-at-requires-4
+u8-at-requires-4 c κs =
+    let entry = c .before .before .before .before .before .before .before .before .before .before .before .before .before .before .before .before .before in
+    le-trans (lit≤ tt) (entry .pre)
+
 returns : tie.Need-returns
 unfolding stateOf
 returns c =
-    let at-textures-at = c .before .before .before .before .before in
-    let at-u16-at = c .before .before .before .before .before .before in
-    let at-palette-at = c .before .before .before .before .before .before .before in
-    let at-matrix-at2 = c .before .before .before .before .before .before .before .before in
-    let at-matrix-at = c .before .before .before .before .before .before .before .before .before in
-    let at-type-mask2 = c .before .before .before .before .before .before .before .before .before .before in
-    let at-type-mask = c .before .before .before .before .before .before .before .before .before .before .before in
-    let at-set-mask = c .before .before .before .before .before .before .before .before .before .before .before .before in
-    let at-u8-at = c .before .before .before .before .before .before .before .before .before .before .before .before .before in
-    let at-lights-at = c .before .before .before .before .before .before .before .before .before .before .before .before .before .before in
+    let d = c .before .before in
+    let at-textures-at = d .before .before .before .before .before in
+    let at-u16-at = d .before .before .before .before .before .before in
+    let at-palette-at = d .before .before .before .before .before .before .before in
+    let at-matrix-at2 = d .before .before .before .before .before .before .before .before in
+    let at-matrix-at = d .before .before .before .before .before .before .before .before .before in
+    let at-type-mask2 = d .before .before .before .before .before .before .before .before .before .before in
+    let at-type-mask = d .before .before .before .before .before .before .before .before .before .before .before in
+    let at-set-mask = d .before .before .before .before .before .before .before .before .before .before .before .before in
+    let at-u8-at = d .before .before .before .before .before .before .before .before .before .before .before .before .before in
+    let at-lights-at = d .before .before .before .before .before .before .before .before .before .before .before .before .before .before in
     rw (
-      c .u8-at3 .ensures,
-      c .before .u16-at2 .ensures,
-      c .before .before .entries-at .ensures,
-      c .before .before .before .u8-at2 .ensures,
-      c .before .before .before .before .material-at .ensures,
+      c .u8-at4 .ensures,
+      c .before .states-at .ensures,
+      d .u8-at3 .ensures,
+      d .before .u16-at2 .ensures,
+      d .before .before .entries-at .ensures,
+      d .before .before .before .u8-at2 .ensures,
+      d .before .before .before .before .material-at .ensures,
       at-textures-at .textures-at .ensures,
       at-u16-at .u16-at .ensures,
       at-palette-at .palette-at .ensures,
@@ -110,4 +123,6 @@ state-of-spec =
     entries-at-requires
     u16-at-requires-2
     u8-at-requires-3
+    states-at-requires
+    u8-at-requires-4
     returns)

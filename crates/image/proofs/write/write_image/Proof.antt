@@ -54,8 +54,8 @@ put-u8-requires-2 : tie.Need-put-u8-requires-2
 put-u8-requires-2 c κs = search needs
 
 -- from the end back to the eighth call
-abbrev eighth : tie.After-slice-known15 → tie.After-put-u82
-eighth c = c .before .before .before .before .before .before .before .before .before .before .before .before .before .before .before .before .before .before .before .before .before .before .before .before .before .before
+abbrev eighth : tie.After-slice-known16 → tie.After-put-u82
+eighth c = c .before .before .before .before .before .before .before .before .before .before .before .before .before .before .before .before .before .before .before .before .before .before .before .before .before .before .before .before .before .before .before
 
 -- from the eighth call back to the test of the length
 abbrev tested : tie.After-put-u82 → tie.Else1
@@ -83,18 +83,25 @@ put-u16-requires-2 c κs = omega (arith, long (c .before .before .before .before
 put-entries-requires : tie.Need-put-entries-requires
 put-entries-requires c κs = omega (arith, long (c .before .before .before .before .before .before .before .before .before .before .before .before .before .before .before .before .before .before .before))
 
-put-zeros-requires : tie.Need-put-zeros-requires
-put-zeros-requires c κs = omega (arith, long (c .before .before .before .before .before .before .before .before .before .before .before .before .before .before .before .before .before .before .before .before .before .before .before))
+put-states-requires : tie.Need-put-states-requires
+put-states-requires c κs = omega (arith, long (c .before .before .before .before .before .before .before .before .before .before .before .before .before .before .before .before .before .before .before .before .before .before .before))
+
+wide8-requires : tie.Need-wide8-requires
+wide8-requires c κs = search needs
+
+put-u32-requires : tie.Need-put-u32-requires
+put-u32-requires c κs = omega (arith, long (c .before .before .before .before .before .before .before .before .before .before .before .before .before .before .before .before .before .before .before .before .before .before .before .before .before .before .before .before))
 
 same-length : tie.Need-same-length
 same-length c =
-    let e : length (c .before .before .put-zeros .last .0) ≡ imageLength = omega (arith, long (eighth c)) in
+    let e : length (c .before .before .put-u32 .last .0) ≡ imageLength = omega (arith, long (eighth c)) in
     e ∙ sym (tested (eighth c) .if1 .left)
 
 returns-2 : tie.Need-returns-2
 unfolding writeImage imageBytes imageTable
 returns-2 c =
-    let c₁₄ = c .before .before in
+    let c₁₅ = c .before .before in
+    let c₁₄ = c₁₅ .before .before .before .before .before in
     let c₁₃ = c₁₄ .before .before .before .before in
     let c₁₂ = c₁₃ .before .before .before .before in
     let c₁₁ = c₁₂ .before .before .before .before in
@@ -114,7 +121,7 @@ returns-2 c =
     let fit : length m ≡ imageLength = tested (eighth c) .if1 .left in
     rw (eq-eqb (length m) imageLength fit)
     (ap (writeOutcome Written)
-    (rw (c₁₄ .put-zeros .ensures, c₁₃ .put-entries .ensures, c₁₂ .put-u162 .ensures, c₁₁ .put-u16 .ensures, c₁₀ .put-u84 .ensures, c₉ .put-u83 .ensures, c₈ .put-u82 .ensures, c₇ .put-u8 .ensures, c₆ .put-lights .ensures, c₅ .put-material .ensures, c₄ .put-textures .ensures, c₃ .put-palette .ensures, c₂ .put-matrix2 .ensures, c₁ .put-matrix .ensures)
+    (rw (c₁₅ .put-u32 .ensures, c₁₅ .before .wide8 .ensures .0, c₁₄ .put-states .ensures, c₁₃ .put-entries .ensures, c₁₂ .put-u162 .ensures, c₁₁ .put-u16 .ensures, c₁₀ .put-u84 .ensures, c₉ .put-u83 .ensures, c₈ .put-u82 .ensures, c₇ .put-u8 .ensures, c₆ .put-lights .ensures, c₅ .put-material .ensures, c₄ .put-textures .ensures, c₃ .put-palette .ensures, c₂ .put-matrix2 .ensures, c₁ .put-matrix .ensures)
     (placed-all imageLength (imageTable state) m (image-tiles state (sized a)) fit)))
 
 pub write-image-spec : {M : Type 1} → statement M
@@ -135,6 +142,8 @@ write-image-spec =
     put-u16-requires
     put-u16-requires-2
     put-entries-requires
-    put-zeros-requires
+    put-states-requires
+    wide8-requires
+    put-u32-requires
     same-length
     returns-2)

@@ -1,4 +1,4 @@
--- `image_reasons::reasons::another_nan` meets its contract. The floats of the matrices, the material, the lights and the entries are tested in turn.
+-- `image_reasons::reasons::another_nan` meets its contract. The floats of the matrices, the material, the lights, the entries and the fog are tested in turn.
 -- Assumes nothing.
 use borrow.Author.Tests.{not-true, not-false}
 use borrow.Author.Needs.{needs}
@@ -25,7 +25,21 @@ entries-nan-free-requires c κs = search needs
 
 returns-3 : tie.Need-returns-3
 unfolding anotherNaN
-returns-3 c = rw (← c .before .before .before .before .nan-free .ensures, not-false (c .before .before .before .before .nan-free .result) (c .before .before .before .if1 .left), ← c .before .before .lights-nan-free .ensures, not-false (c .before .before .lights-nan-free .result) (c .before .if2 .left), ← c .entries-nan-free .ensures)
+returns-3 c =
+    let l = c .before .before .before in
+    let f = l .before .before in
+    rw (← f .nan-free .ensures, not-false (f .nan-free .result) (l .before .if1 .left), ← l .lights-nan-free .ensures, not-false (l .lights-nan-free .result) (c .before .before .if2 .left), ← c .before .entries-nan-free .ensures, not-true (c .before .entries-nan-free .result) (c .if3 .taken))
+
+nan-free-requires-2 : tie.Need-nan-free-requires-2
+nan-free-requires-2 c κs = search needs
+
+returns-4 : tie.Need-returns-4
+unfolding anotherNaN
+returns-4 c =
+    let e = c .before .before in
+    let l = e .before .before in
+    let f = l .before .before in
+    rw (← f .nan-free .ensures, not-false (f .nan-free .result) (l .before .if1 .left), ← l .lights-nan-free .ensures, not-false (l .lights-nan-free .result) (e .before .if2 .left), ← e .entries-nan-free .ensures, not-false (e .entries-nan-free .result) (c .before .if3 .left), ← c .nan-free2 .ensures)
 
 pub another-nan-spec : {M : Type 1} → statement M
 another-nan-spec =
@@ -36,4 +50,6 @@ another-nan-spec =
     lights-nan-free-requires
     returns-2
     entries-nan-free-requires
-    returns-3)
+    returns-3
+    nan-free-requires-2
+    returns-4)

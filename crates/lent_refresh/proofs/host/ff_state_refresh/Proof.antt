@@ -1,8 +1,8 @@
 -- `lent_refresh::host::ff_state_refresh` meets its contract: a walk of its MIR. The key is made of the eight numbers; state, mirror and lent number are lent on to `refresh` and come back as it
 -- left them. Assumes nothing.
 use Rattle.pack_calls.specs.Key.{keyOf}
-use Rattle.lent_refresh.specs.Mirror.{LentRefreshed, left, lentRefresh}
-use Rattle.lent_refresh.proofs.Numbers.{all-left}
+use Rattle.refresh_parts.specs.Mirror.{LentRefreshed, left, lentRefresh}
+use Rattle.refresh_parts.proofs.Numbers.{all-left}
 use mathlib.Core.Path.{_≡_, refl, sym, ap, subst}
 use Prim.Native.Nat.{ℕ, _<_, _^_}
 use mathlib.Core.List.{[], _∷_, List}

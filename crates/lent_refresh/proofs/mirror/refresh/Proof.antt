@@ -4,9 +4,9 @@ use Rattle.ff_state.specs.Dirty.{takeFfVsDirty}
 use Rattle.sections.specs.Sections.{sections}
 use Rattle.refresh.specs.Answer.{refreshAnswer, refreshNumber}
 use Rattle.refresh.specs.Written.{written}
-use Rattle.lent_refresh.specs.Mirror.{left, lentRefresh}
+use Rattle.refresh_parts.specs.Mirror.{left, lentRefresh}
 use Rattle.lent_refresh.proofs.Cell.{Spread, count-open, count-shut}
-use Rattle.lent_refresh.proofs.Numbers.{accepted-long, accepted-with, refused-is}
+use Rattle.refresh_parts.proofs.Numbers.{accepted-long, accepted-with, refused-is}
 use mathlib.Core.Path.{_≡_, refl, sym, ap, subst, _∙_}
 use Prim.Native.Nat.{ℕ, _<_, _^_}
 use mathlib.Core.List.{[], _∷_, List}

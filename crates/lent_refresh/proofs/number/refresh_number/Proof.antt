@@ -2,7 +2,7 @@
 -- the borrow stays shut. Assumes nothing.
 use Rattle.refresh.specs.Answer.{refreshAnswer, refreshNumber}
 use Rattle.refresh_parts.specs.Parts.{firstNumber, maskNumber, partLights}
-use Rattle.lent_refresh.proofs.Numbers.{looked, not-looked}
+use Rattle.refresh_parts.proofs.Numbers.{looked, not-looked}
 use mathlib.Core.Path.{_≡_, refl, sym, ap, subst}
 use Prim.Native.Nat.{ℕ, _<_, _^_}
 use mathlib.Core.List.{[], _∷_, List}

@@ -56,11 +56,11 @@ use Rattle.lent_state.proofs.dirty.ff_state_mark_ff_vs_dirty.Code as co
 abbrev stayed : Stays (f.ended .signature .params) (f.ended .kept)
 stayed = (stay-ref (0 ∷ []) tt (plain (λ _. St.the-row)), (stay-none (λ _. u32) yes, tt))
 
-holds : (n : ℕ) → n < 64 → leb n 63 ≡ true
-holds n lt = le-leb n 63 (omega arith)
+holds : (n : ℕ) → n < 256 → leb n 255 ≡ true
+holds n lt = le-leb n 255 (omega arith)
 
-fails : (n : ℕ) → 64 ≤ n → leb n 63 ≡ false
-fails n le = lt-leb n 63 (omega arith)
+fails : (n : ℕ) → 256 ≤ n → leb n 255 ≡ false
+fails n le = lt-leb n 255 (omega arith)
 
 module _ {M : Type 1} (𝓤 : URA M) (H : Heap 𝓤) (A : Atoms 𝓤) (W : Given 𝓤 H A) (at-mem : Memory → SProp 𝓤) (run : Routine → Fun 𝓤) (κ : Lft) (q : Share) (b o : ℕ) (γ : GName) (h : FfState) (n : ℕ) (n-fits : n < 2 ^ 32) where
   abbrev Arg : Type 0
@@ -75,11 +75,11 @@ module _ {M : Type 1} (𝓤 : URA M) (H : Heap 𝓤) (A : Atoms 𝓤) (W : Given
   abbrev Says : ℕ → FfState → Type 0
   Says r z = (r, z) ≡ ffStateMarkFfVsDirty h n
 
-  held : n < 64 → Says 0 (withFfVsDirty h d)
+  held : n < 256 → Says 0 (withFfVsDirty h d)
   unfolding markFfVsDirty markNumber dirtied
   held lt = rw (holds n lt) refl
 
-  failed : 64 ≤ n → Says 7 h
+  failed : 256 ≤ n → Says 7 h
   unfolding markFfVsDirty markNumber
   failed le = rw (fails n le) refl
 
@@ -108,7 +108,7 @@ module _ {M : Type 1} (𝓤 : URA M) (H : Heap 𝓤) (A : Atoms 𝓤) (W : Given
         assigns ! (bin ! (load ! (from ! (stop !)) (look ! 8 refl)) (lit ! tt) tt) (from ! (stop !)) (init ! 6 refl (tt, tt)) $
         first ! $ branches ! (load ! (from ! (stop !)) (look ! 6 refl))
         -- the bits are sections': the borrow is opened, the byte stored, the borrow closed
-        (λ yes. let less : n < 64 = ltb→lt n 64 yes in move ! (14 ∷ 15 ∷ 16 ∷ []) $ opens ! tt St.the-row {h = h} b o (λ vs. spelt ! St.the-row (Is St.the-row) (shows 𝓤 H A St.the-row) (LL.vals St.the-type St′.the-laws) (LL.tells St.the-type St′.the-laws) fullShare h vs b o $
+        (λ yes. let less : n < 256 = ltb→lt n 256 yes in move ! (14 ∷ 15 ∷ 16 ∷ []) $ opens ! tt St.the-row {h = h} b o (λ vs. spelt ! St.the-row (Is St.the-row) (shows 𝓤 H A St.the-row) (LL.vals St.the-type St′.the-laws) (LL.tells St.the-type St′.the-laws) fullShare h vs b o $
         move ! (1 ∷ []) $ peeks ! St.the-row (Is St.the-row) (shows 𝓤 H A St.the-row) h (stateVal h ∷ []) (λ was. drop ! $
         -- [the state's cell; the open borrow; obs; auth; _6; …; _5; …; _4; …; _3; …; _2; …; _1; …; room for _0; …]
         let small : n < 2 ^ 8 = omega arith in
@@ -127,7 +127,7 @@ module _ {M : Type 1} (𝓤 : URA M) (H : Heap 𝓤) (A : Atoms 𝓤) (W : Given
         assigns ! (of-opd ! (lit ! tt)) (from ! (stop !)) (init ! 12 refl (tt, record { fits = lit< tt })) $
         returns ! (look ! 12 refl) $ forget ! 6 refl $ forget ! 8 refl $ forget ! 10 refl $ forget ! 12 refl $
         move ! (12 ∷ 13 ∷ []) $ free1 ! $ move ! (10 ∷ 11 ∷ []) $ free1 ! $ move ! (8 ∷ 9 ∷ []) $ free1 ! $ move ! (6 ∷ 7 ∷ []) $ free1 ! $ move ! (4 ∷ 5 ∷ []) $ free1 ! $ move ! (2 ∷ 3 ∷ []) $ free1 ! $ move ! (0 ∷ 1 ∷ []) $ free1 ! $ free0 ! $
-        keep ! (0 ∷ 1 ∷ 2 ∷ []) $ by ! (exits 7 h (lit< tt) (failed (nltb→le n 64 no)))))))))))
+        keep ! (0 ∷ 1 ∷ 2 ∷ []) $ by ! (exits 7 h (lit< tt) (failed (nltb→le n 256 no)))))))))))
 
 module _ {M : Type 1} (𝓤 : URA M) (H : Heap 𝓤) (A : Atoms 𝓤) (W : Given 𝓤 H A) (mem : Memory → SProp 𝓤) (run : Routine → Fun 𝓤) where
   walks : (C : Calls 𝓤 H) (Λ : Loops 𝓤 H) → Walks 𝓤 H A f.ended stayed (WpFn 𝓤 H C Λ code.function) (f.clauses 𝓤 H A mem run)

@@ -8,7 +8,7 @@ use Rattle.ff_state.specs.declared.lights.LightChanged.{LightChanged}
 use Rattle.image.specs.Format.{imageBytes}
 use Rattle.calls.proofs.Answers.{length-right, length-wrong}
 use Rattle.calls.proofs.Calls.{image-long, image-fits, changing-nine, changing-own, changing-length, changing-done}
-use Rattle.calls.proofs.Numbers.{set-full, set-room}
+use Rattle.light_calls.proofs.Numbers.{set-full, set-room}
 use borrow.Author.Needs.{needs}
 use Rattle.light_calls.proofs.lights.set_light_at.Statement.{statement}
 use Rattle.light_calls.proofs.lights.set_light_at.Tie as tie

@@ -8,7 +8,7 @@ use Rattle.ff_state.specs.Lights.{hasRoom, setLightEnabledAt}
 use Rattle.ff_state.specs.declared.lights.LightChanged.{LightChanged}
 use Rattle.image.specs.Format.{imageBytes}
 use Rattle.calls.proofs.Calls.{image-long, image-fits, changing-nine, changing-own, changing-done}
-use Rattle.calls.proofs.Numbers.{enable-full, enable-room}
+use Rattle.light_calls.proofs.Numbers.{enable-full, enable-room}
 use borrow.Author.Needs.{needs}
 use Rattle.light_calls.proofs.lights.set_light_enabled_at.Statement.{statement}
 use Rattle.light_calls.proofs.lights.set_light_enabled_at.Tie as tie

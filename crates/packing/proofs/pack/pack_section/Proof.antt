@@ -86,6 +86,30 @@ same-length-6 c = search needs
 returns-6 : tie.Need-returns-6
 returns-6 c = let told = c .before .before .before .before in named _ _ _ _ _ (told .enum-told6 .given .1) (c .before .before .fill-tt-section .ensures)
 
+enum-told-7 : tie.Need-enum-told-7
+enum-told-7 c = search needs
+
+fill-fog-section-requires : tie.Need-fill-fog-section-requires
+fill-fog-section-requires c κs = search needs
+
+same-length-7 : tie.Need-same-length-7
+same-length-7 c = search needs
+
+returns-7 : tie.Need-returns-7
+returns-7 c = let told = c .before .before .before .before in named _ _ _ _ _ (told .enum-told7 .given .1) (c .before .before .fill-fog-section .ensures)
+
+enum-told-8 : tie.Need-enum-told-8
+enum-told-8 c = search needs
+
+fill-ambient-section-requires : tie.Need-fill-ambient-section-requires
+fill-ambient-section-requires c κs = search needs
+
+same-length-8 : tie.Need-same-length-8
+same-length-8 c = search needs
+
+returns-8 : tie.Need-returns-8
+returns-8 c = let told = c .before .before .before .before in named _ _ _ _ _ (told .enum-told8 .given .1) (c .before .before .fill-ambient-section .ensures)
+
 pub pack-section-spec : {M : Type 1} → statement M
 pack-section-spec =
     tie.close
@@ -113,4 +137,12 @@ pack-section-spec =
     enum-told-6
     fill-tt-section-requires
     same-length-6
-    returns-6)
+    returns-6
+    enum-told-7
+    fill-fog-section-requires
+    same-length-7
+    returns-7
+    enum-told-8
+    fill-ambient-section-requires
+    same-length-8
+    returns-8)

@@ -1,4 +1,4 @@
--- `refresh::mirror::refresh` meets its contract: a refused refresh returns before anything is written; an accepted one writes the sections in the table's order, and for TT there is nothing to write.
+-- `refresh::mirror::refresh` meets its contract: a refused refresh returns before anything is written; an accepted one writes the sections in the table's order.
 -- Assumes nothing.
 use Prim.Native.Nat.{ℕ, suc}
 use native.Mathlib.Omega.{arith}
@@ -73,13 +73,50 @@ write-section-requires-5 c κs =
     let had = write-section-requires-4 (wrote .before) κs in
     (wrote .write-section4 .kept .1 .1 .1 .1 .0 ∙ had .0, had .1)
 
+write-section-requires-6 : tie.Need-write-section-requires-6
+write-section-requires-6 c κs =
+    let wrote = c .before .before .before in
+    let had = write-section-requires-5 (wrote .before) κs in
+    (wrote .write-section5 .kept .1 .1 .1 .1 .0 ∙ had .0, had .1)
+
+write-section-requires-7 : tie.Need-write-section-requires-7
+write-section-requires-7 c κs =
+    let wrote = c .before .before .before in
+    let had = write-section-requires-6 (wrote .before) κs in
+    (wrote .write-section6 .kept .1 .1 .1 .1 .0 ∙ had .0, had .1)
+
+write-section-requires-8 : tie.Need-write-section-requires-8
+write-section-requires-8 c κs =
+    let wrote = c .before .before .before in
+    let had = write-section-requires-7 (wrote .before) κs in
+    (wrote .write-section7 .kept .1 .1 .1 .1 .0 ∙ had .0, had .1)
+
 same-length : tie.Need-same-length
-same-length c = search needs
+same-length c =
+    let ambient = c .before .before in
+    let fog = ambient .before .before .before .before in
+    let tt-section = fog .before .before .before .before in
+    let palette = tt-section .before .before .before .before in
+    let lights = palette .before .before .before .before in
+    let material = lights .before .before .before .before in
+    let proj = material .before .before .before .before in
+    let wv = proj .before .before .before .before in
+    ambient .write-section8 .kept .1 .1 .1 .1 .0
+    ∙ fog .write-section7 .kept .1 .1 .1 .1 .0
+    ∙ tt-section .write-section6 .kept .1 .1 .1 .1 .0
+    ∙ palette .write-section5 .kept .1 .1 .1 .1 .0
+    ∙ lights .write-section4 .kept .1 .1 .1 .1 .0
+    ∙ material .write-section3 .kept .1 .1 .1 .1 .0
+    ∙ proj .write-section2 .kept .1 .1 .1 .1 .0
+    ∙ wv .write-section .kept .1 .1 .1 .1 .0
 
 returns-2 : tie.Need-returns-2
 unfolding refreshMirror
 returns-2 c =
-    let palette = c .before .before in
+    let ambient = c .before .before in
+    let fog = ambient .before .before .before .before in
+    let tt-section = fog .before .before .before .before in
+    let palette = tt-section .before .before .before .before in
     let lights = palette .before .before .before .before in
     let material = lights .before .before .before .before in
     let proj = material .before .before .before .before in
@@ -87,12 +124,15 @@ returns-2 c =
     let took = wv .before .before .before in
     let told = took .before in
     let a = told .before .before .before .before .args in
-    done (a .s) (a .key) _ (took .take-ff-vs-dirty .ensures) (a .mirror .now) _ _ _ _ _
+    done (a .s) (a .key) _ (took .take-ff-vs-dirty .ensures) (a .mirror .now) _ _ _ _ _ _ _ _
     (wv .write-section .ensures)
     (proj .write-section2 .ensures)
     (material .write-section3 .ensures)
     (lights .write-section4 .ensures)
     (palette .write-section5 .ensures)
+    (tt-section .write-section6 .ensures)
+    (fog .write-section7 .ensures)
+    (ambient .write-section8 .ensures)
     ∙ ap (λ (r : RefreshAnswer). refreshBy r (a .s) (a .key) (a .mirror .now)) (sym (told .enum-told .given .1) ∙ told .before .before .refresh-answer .ensures)
 
 pub refresh-spec : {M : Type 1} → statement M
@@ -108,5 +148,8 @@ refresh-spec =
     write-section-requires-3
     write-section-requires-4
     write-section-requires-5
+    write-section-requires-6
+    write-section-requires-7
+    write-section-requires-8
     same-length
     returns-2)

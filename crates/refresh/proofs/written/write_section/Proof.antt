@@ -20,6 +20,7 @@ ready c =
     record {
       count = c .good .1 .1 .1 .0 .1 .1 .1 .1 .1 .1 .1 .1 .1 .0 .1;
       palette = sym (length-map (c .args .s .«world_palette») _) ∙ c .good .1 .1 .0 .1 .1 .1 .1 .0 .1 .0 .1;
+      textures = sym (length-map (c .args .s .«texture_transforms») _) ∙ c .good .1 .1 .0 .1 .1 .1 .1 .1 .1 .0 .1 .0 .1;
       mask = c .pre .1;
     }
 
@@ -29,7 +30,7 @@ begin c = c .before .before .before .before .before
 first-is : (c : tie.After-section-rows) → c .before .first-row .result ≡ firstRow (begin c .args .section)
 first-is c = c .before .first-row .ensures
 
-rows-is : (c : tie.After-section-rows) → c .section-rows .result ≡ sectionRows (begin c .args .section) (begin c .args .key) 0
+rows-is : (c : tie.After-section-rows) → c .section-rows .result ≡ sectionRows (begin c .args .section) (begin c .args .key) (begin c .args .s .«tt_active_mask»)
 rows-is c = c .section-rows .ensures
 
 has-section-requires : tie.Need-has-section-requires
@@ -69,7 +70,7 @@ part-pack-section-end : tie.Need-part-pack-section-end
 part-pack-section-end c =
     let table = c in
     let start = begin table in
-    omega (arith, first-is table, rows-is table, start .pre .0, fits-mirror (start .args .key) 0 (ready start .count) (start .args .section))
+    omega (arith, first-is table, rows-is table, start .pre .0, fits-mirror (start .args .key) (start .args .s .«tt_active_mask») (ready start .count) (start .args .section))
 
 pack-section-requires : tie.Need-pack-section-requires
 pack-section-requires c κs = search needs
@@ -86,7 +87,7 @@ returns c =
     let f : ℕ = 4 * table .before .first-row .result in
     let n : ℕ = f + 4 * table .section-rows .result - f in
     let whole : n ≡ 4 * stateCount (a .section) (a .s) (a .key) = omega (arith, rows-is table) in
-    let room = fits-mirror (a .key) 0 (ready start .count) (a .section) in
+    let room = fits-mirror (a .key) (a .s .«tt_active_mask») (ready start .count) (a .section) in
     let long = part-length f n (a .mirror .now) (omega (arith, first-is table, rows-is table, start .pre .0, room)) ∙ whole in
     rw (sym (table .before .before .before .has-section .ensures) ∙ table .before .before .if1 .taken)
     (put-back (a .mirror .now) (ap (λ (r : ℕ). 4 * r) (first-is table))

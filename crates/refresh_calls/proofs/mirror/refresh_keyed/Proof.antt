@@ -98,9 +98,30 @@ write-section-bytes-requires-5 c κs =
     let had = write-section-bytes-requires-4 (wrote .before) κs in
     (wrote .write-section-bytes4 .kept .1 .1 .1 .1 .0 ∙ had .0, had .1)
 
+write-section-bytes-requires-6 : tie.Need-write-section-bytes-requires-6
+write-section-bytes-requires-6 c κs =
+    let wrote = c .before .before .before in
+    let had = write-section-bytes-requires-5 (wrote .before) κs in
+    (wrote .write-section-bytes5 .kept .1 .1 .1 .1 .0 ∙ had .0, had .1)
+
+write-section-bytes-requires-7 : tie.Need-write-section-bytes-requires-7
+write-section-bytes-requires-7 c κs =
+    let wrote = c .before .before .before in
+    let had = write-section-bytes-requires-6 (wrote .before) κs in
+    (wrote .write-section-bytes6 .kept .1 .1 .1 .1 .0 ∙ had .0, had .1)
+
+write-section-bytes-requires-8 : tie.Need-write-section-bytes-requires-8
+write-section-bytes-requires-8 c κs =
+    let wrote = c .before .before .before in
+    let had = write-section-bytes-requires-7 (wrote .before) κs in
+    (wrote .write-section-bytes7 .kept .1 .1 .1 .1 .0 ∙ had .0, had .1)
+
 put-state-requires : tie.Need-put-state-requires
 put-state-requires c κs =
-    let ws5 = c .before .before .before in
+    let ws8 = c .before .before .before in
+    let ws7 = ws8 .before .before .before .before in
+    let ws6 = ws7 .before .before .before .before in
+    let ws5 = ws6 .before .before .before .before in
     let ws4 = ws5 .before .before .before .before in
     let ws3 = ws4 .before .before .before .before in
     let ws2 = ws3 .before .before .before .before in
@@ -142,13 +163,32 @@ same-length-6 : tie.Need-same-length-6
 same-length-6 c = search needs
 
 same-length-7 : tie.Need-same-length-7
-same-length-7 c = search needs
+same-length-7 c =
+    let ws8 = c .before .before .before .before .before .before in
+    let ws7 = ws8 .before .before .before .before in
+    let ws6 = ws7 .before .before .before .before in
+    let ws5 = ws6 .before .before .before .before in
+    let ws4 = ws5 .before .before .before .before in
+    let ws3 = ws4 .before .before .before .before in
+    let ws2 = ws3 .before .before .before .before in
+    let ws1 = ws2 .before .before .before .before in
+    ws8 .write-section-bytes8 .kept .1 .1 .1 .1 .0
+    ∙ ws7 .write-section-bytes7 .kept .1 .1 .1 .1 .0
+    ∙ ws6 .write-section-bytes6 .kept .1 .1 .1 .1 .0
+    ∙ ws5 .write-section-bytes5 .kept .1 .1 .1 .1 .0
+    ∙ ws4 .write-section-bytes4 .kept .1 .1 .1 .1 .0
+    ∙ ws3 .write-section-bytes3 .kept .1 .1 .1 .1 .0
+    ∙ ws2 .write-section-bytes2 .kept .1 .1 .1 .1 .0
+    ∙ ws1 .write-section-bytes .kept .1 .1 .1 .1 .0
 
 returns-6 : tie.Need-returns-6
 unfolding refreshNumber
 returns-6 c =
     let put = c .before .before in
-    let ws5 = put .before .before .before .before in
+    let ws8 = put .before .before .before .before in
+    let ws7 = ws8 .before .before .before .before in
+    let ws6 = ws7 .before .before .before .before in
+    let ws5 = ws6 .before .before .before .before in
     let ws4 = ws5 .before .before .before .before in
     let ws3 = ws4 .before .before .before .before in
     let ws2 = ws3 .before .before .before .before in
@@ -162,12 +202,15 @@ returns-6 c =
     let is : s ≡ stateOf (now (a .image)) = asked .before .state-of .ensures in
     let t : Taken = took .take-ff-vs-dirty .result in
     let taken : t ≡ takeFfVsDirty s = took .take-ff-vs-dirty .ensures in
-    let all = all-written s (a .key) (t .bits) (now (a .mirror)) _ _ _ _ _
+    let all = all-written s (a .key) (t .bits) (now (a .mirror)) _ _ _ _ _ _ _ _
     (ws1 .write-section-bytes .ensures)
     (ws2 .write-section-bytes2 .ensures)
     (ws3 .write-section-bytes3 .ensures)
     (ws4 .write-section-bytes4 .ensures)
-    (ws5 .write-section-bytes5 .ensures) in
+    (ws5 .write-section-bytes5 .ensures)
+    (ws6 .write-section-bytes6 .ensures)
+    (ws7 .write-section-bytes7 .ensures)
+    (ws8 .write-section-bytes8 .ensures) in
     refresh-done _ _ _ _ (good-image else2) (else2 .if2 .left) (ap refreshNumber (sym (answer-of asked) ∙ told .enum-told4 .given .1)) _
     (ap₂ (λ (i m : List ℕ). left i m (t .bits)) (put .put-state .ensures) all
     ∙ ap (λ (r : Taken). left (imageBytes (r .state)) (writtenBytes sections (r .bits) s (a .key) (now (a .mirror))) (r .bits)) taken
@@ -194,6 +237,9 @@ refresh-keyed-spec =
     write-section-bytes-requires-3
     write-section-bytes-requires-4
     write-section-bytes-requires-5
+    write-section-bytes-requires-6
+    write-section-bytes-requires-7
+    write-section-bytes-requires-8
     put-state-requires
     same-length-3
     returns-3

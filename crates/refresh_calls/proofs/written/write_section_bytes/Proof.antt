@@ -6,10 +6,9 @@ use mathlib.Core.Path.{_≡_, sym, ap, _∙_}
 use lib.ListN.{length, length-map}
 use Rattle.codec.specs.Float.{floatBytes}
 use Rattle.image_lists.proofs.Writing.{length-listBytes}
-use Rattle.sections.specs.Counts.{sectionRows}
 use Rattle.sections.specs.Sections.{firstRow}
 use Rattle.sections.proofs.Tiles.{fits-mirror}
-use Rattle.packing.specs.Pack.{packNumber}
+use Rattle.packing.specs.Pack.{packNumber, stateCount}
 use Rattle.refresh.proofs.Packed.{Ready, rows-length, accepted}
 use Rattle.refresh_calls.specs.Written.{writtenSectionBytes}
 use Rattle.pack_calls.specs.Fill.{fillBytes}
@@ -26,6 +25,7 @@ ready c =
     record {
       count = c .good .1 .1 .1 .0 .1 .1 .1 .1 .1 .1 .1 .1 .1 .0 .1;
       palette = sym (length-map (c .args .s .«world_palette») _) ∙ c .good .1 .1 .0 .1 .1 .1 .1 .0 .1 .0 .1;
+      textures = sym (length-map (c .args .s .«texture_transforms») _) ∙ c .good .1 .1 .0 .1 .1 .1 .1 .1 .1 .0 .1 .0 .1;
       mask = c .pre .1;
     }
 
@@ -35,7 +35,7 @@ start c = c .before .before .before .before .before
 first-is : (c : tie.After-section-rows) → c .before .first-row .result ≡ firstRow (start c .args .section)
 first-is c = c .before .first-row .ensures
 
-rows-is : (c : tie.After-section-rows) → c .section-rows .result ≡ sectionRows (start c .args .section) (start c .args .key) 0
+rows-is : (c : tie.After-section-rows) → c .section-rows .result ≡ stateCount (start c .args .section) (start c .args .s) (start c .args .key)
 rows-is c = c .section-rows .ensures
 
 has-section-requires : tie.Need-has-section-requires
@@ -72,13 +72,13 @@ array-borrow-prefix-floats : tie.Need-array-borrow-prefix-floats
 array-borrow-prefix-floats c =
     let table = c .before in
     let a = start table .args in
-    omega (arith, fill-fits (a .section) (a .key) (rows-is table) (ready (start table) .count))
+    omega (arith, fill-fits (a .section) (a .s) (a .key) (rows-is table) (ready (start table) .count))
 
 slice-aggregate-fill-bytes : tie.Need-slice-aggregate-fill-bytes
 slice-aggregate-fill-bytes c =
     let table = c .before .before in
     let a = start table .args in
-    sym (front (a .section) (a .key) (rows-is table) (ready (start table) .count) _ (c .before .mirror-floats .ensures))
+    sym (front (a .section) (a .s) (a .key) (rows-is table) (ready (start table) .count) _ (c .before .mirror-floats .ensures))
 
 sub-fill-bytes : tie.Need-sub-fill-bytes
 sub-fill-bytes c = search needs
@@ -90,7 +90,7 @@ part-fill-bytes-end : tie.Need-part-fill-bytes-end
 part-fill-bytes-end c =
     let table = c .before .before in
     let begin = start table in
-    omega (arith, first-is table, rows-is table, begin .pre .0, fits-mirror (begin .args .key) 0 (ready begin .count) (begin .args .section))
+    omega (arith, first-is table, rows-is table, begin .pre .0, fits-mirror (begin .args .key) (begin .args .s .«tt_active_mask») (ready begin .count) (begin .args .section))
 
 fill-bytes-requires : tie.Need-fill-bytes-requires
 fill-bytes-requires c κs =
@@ -102,9 +102,9 @@ fill-bytes-requires c κs =
     let f : ℕ = 16 * table .before .first-row .result in
     let n : ℕ = f + 4 * (4 * table .section-rows .result) - f in
     let whole : n ≡ 4 * (4 * table .section-rows .result) = omega arith in
-    let room = fits-mirror (a .key) 0 byte (a .section) in (
-      front-rows (a .section) (a .key) (rows-is table) byte _ long,
-      part-length f n (a .mirror .now) (omega (arith, first-is table, rows-is table, begin .pre .0, room)) ∙ whole ∙ ap (λ (x : ℕ). 4 * x) (sym (front (a .section) (a .key) (rows-is table) byte _ long)),
+    let room = fits-mirror (a .key) (a .s .«tt_active_mask») byte (a .section) in (
+      front-rows (a .section) (a .s) (a .key) (rows-is table) byte _ long,
+      part-length f n (a .mirror .now) (omega (arith, first-is table, rows-is table, begin .pre .0, room)) ∙ whole ∙ ap (λ (x : ℕ). 4 * x) (sym (front (a .section) (a .s) (a .key) (rows-is table) byte _ long)),
     )
 
 same-length : tie.Need-same-length
@@ -120,7 +120,7 @@ returns c =
     let k : Ready (a .s) (a .key) = ready begin in
     let f : ℕ = 16 * table .before .first-row .result in
     let n : ℕ = f + 4 * (4 * table .section-rows .result) - f in
-    let whole : n ≡ 16 * sectionRows (a .section) (a .key) 0 = omega (arith, rows-is table) in
+    let whole : n ≡ 16 * stateCount (a .section) (a .s) (a .key) = omega (arith, rows-is table) in
     let wide : length (fillBytes (a .section) (a .key) (a .s)) ≡ n =
     length-listBytes floatBytes 4 length-floatBytes _ ∙ ap (λ (x : ℕ). 4 * x) (rows-length k (a .section)) ∙ omega (arith, whole) in
     let place : f ≡ 4 * (4 * firstRow (a .section)) = omega (arith, first-is table) in

@@ -49,6 +49,18 @@ enum-told-6 c = search needs
 tt-section-rows-requires : tie.Need-tt-section-rows-requires
 tt-section-rows-requires c κs = search needs
 
+enum-told-7 : tie.Need-enum-told-7
+enum-told-7 c = search needs
+
+fog-section-rows-requires : tie.Need-fog-section-rows-requires
+fog-section-rows-requires c κs = search needs
+
+enum-told-8 : tie.Need-enum-told-8
+enum-told-8 c = search needs
+
+ambient-section-rows-requires : tie.Need-ambient-section-rows-requires
+ambient-section-rows-requires c κs = search needs
+
 returns : tie.Need-returns
 returns c = let a = c .before .before .before .args in line (a .key) (a .texture-mask) (c .before .enum-told .given .1) (c .wv-section-rows .ensures)
 
@@ -67,6 +79,12 @@ returns-5 c = let a = c .before .before .before .args in line (a .key) (a .textu
 returns-6 : tie.Need-returns-6
 returns-6 c = let a = c .before .before .before .args in line (a .key) (a .texture-mask) (c .before .enum-told6 .given .1) (c .tt-section-rows .ensures)
 
+returns-7 : tie.Need-returns-7
+returns-7 c = let a = c .before .before .before .args in line (a .key) (a .texture-mask) (c .before .enum-told7 .given .1) (c .fog-section-rows .ensures)
+
+returns-8 : tie.Need-returns-8
+returns-8 c = let a = c .before .before .before .args in line (a .key) (a .texture-mask) (c .before .enum-told8 .given .1) (c .ambient-section-rows .ensures)
+
 pub section-rows-spec : {M : Type 1} → statement M
 section-rows-spec =
     tie.close
@@ -83,9 +101,15 @@ section-rows-spec =
     palette-section-rows-requires
     enum-told-6
     tt-section-rows-requires
+    enum-told-7
+    fog-section-rows-requires
+    enum-told-8
+    ambient-section-rows-requires
     returns
     returns-2
     returns-3
     returns-4
     returns-5
-    returns-6)
+    returns-6
+    returns-7
+    returns-8)

@@ -1,8 +1,6 @@
 -- `sections::row_count::texture_reach` meets its contract: each return is what `cond` picks where the test came out so.
 -- Assumes nothing.
-use Prim.Native.Nat.{_+_}
 use native.Mathlib.Omega.{arith}
-use mathlib.Core.Path.{ap}
 use borrow.Author.Tests.{eq-eqb, ne-eqb}
 use Rattle.sections.specs.RowCount.{textureReach}
 use Rattle.sections.proofs.Bounds.{texture-most}
@@ -22,7 +20,7 @@ add-result c = omega (arith, c .tt-section-rows .ensures, texture-most (c .befor
 
 returns-2 : tie.Need-returns-2
 unfolding textureReach
-returns-2 c = rw (ne-eqb _ 0 (c .before .if1 .left)) (ap (λ n. 63 + n) (c .tt-section-rows .ensures))
+returns-2 c = rw (ne-eqb _ 0 (c .before .if1 .left), c .tt-section-rows .ensures)
 
 pub texture-reach-spec : {M : Type 1} → statement M
 texture-reach-spec = tie.close (tie.spec returns tt-section-rows-requires add-result returns-2)
