@@ -2,9 +2,14 @@
 //! the bent call; without a bend each of these commands must end with status 0.
 
 use std::process::Command;
+use std::sync::atomic::{AtomicUsize, Ordering};
+use std::thread;
 
-use crate::bends::BENDS;
+use crate::bends::{BENDS, Named};
 use crate::bent;
+
+/// A bend's borders run on one thread: two bends at a time.
+const THREADS: usize = 2;
 
 /// Enough for every bend, and little enough for a second each.
 const COUNT: &str = "200000";
@@ -28,6 +33,21 @@ fn run(command: &str, bend: Option<&str>) -> Result<Ended, String> {
     })
 }
 
+/// Whether each command of a bend ends with status 1 and names the bent call, or what it did instead.
+fn caught(bent: &Named) -> Result<(), String> {
+    let told = format!("difference: {},", bent.call);
+    for command in bent.commands {
+        let ended = run(command, Some(bent.name))?;
+        if ended.status != Some(1) || !ended.text.contains(&told) {
+            return Err(format!(
+                "{command} --bend {}: expected status 1 and {told:?}, got {:?}:\n{}",
+                bent.name, ended.status, ended.text
+            ));
+        }
+    }
+    Ok(())
+}
+
 /// How many bends were caught, each by all of its commands, or what went wrong.
 pub fn self_test() -> Result<usize, String> {
     if !bent::straight() {
@@ -46,18 +66,21 @@ pub fn self_test() -> Result<usize, String> {
             return Err(format!("{command} fails without a bend:\n{}", ended.text));
         }
     }
-    for bent in BENDS {
-        let told = format!("difference: {},", bent.call);
-        for command in bent.commands {
-            let ended = run(command, Some(bent.name))?;
-            if ended.status != Some(1) || !ended.text.contains(&told) {
-                return Err(format!(
-                    "{command} --bend {}: expected status 1 and {told:?}, got {:?}:\n{}",
-                    bent.name, ended.status, ended.text
-                ));
-            }
-        }
-        println!("{:<28}caught by {}", bent.name, bent.commands.join(", "));
-    }
-    Ok(BENDS.len())
+    let next = AtomicUsize::new(0);
+    thread::scope(|scope| {
+        let workers = [(); THREADS].map(|()| {
+            scope.spawn(|| {
+                while let Some(bent) = BENDS.get(next.fetch_add(1, Ordering::Relaxed)) {
+                    caught(bent)?;
+                    println!("{:<28}caught by {}", bent.name, bent.commands.join(", "));
+                }
+                Ok(BENDS.len())
+            })
+        });
+        workers
+            .map(|worker| worker.join().expect("no worker panics"))
+            .into_iter()
+            .collect::<Result<Vec<usize>, String>>()
+            .map(|_| BENDS.len())
+    })
 }
