@@ -5,7 +5,7 @@ ghost use Rattle.d3d9_types.specs.Color.{color_row, row_color};
 use crate::matrix::Row;
 
 #[repr(C)]
-#[derive(Drop)]
+#[derive(Clone, Copy)]
 pub struct D3DCOLORVALUE {
     pub r: f32,
     pub g: f32,

@@ -14,7 +14,7 @@ pub const D3DLIGHT_DIRECTIONAL: u32 = 3;
 
 // The type is a number, kept as it is: any other than the three lights nothing.
 #[repr(C)]
-#[derive(Drop)]
+#[derive(Clone, Copy)]
 pub struct D3DLIGHT9 {
     pub type_: u32,
     pub diffuse: D3DCOLORVALUE,

@@ -5,7 +5,7 @@ ghost use Rattle.d3d9_types.specs.Material.{default_material};
 use crate::color::D3DCOLORVALUE;
 
 #[repr(C)]
-#[derive(Drop)]
+#[derive(Clone, Copy)]
 pub struct D3DMATERIAL9 {
     pub diffuse: D3DCOLORVALUE,
     pub ambient: D3DCOLORVALUE,

@@ -4,7 +4,7 @@ ghost use Rattle.d3d9_types.specs.Matrix as Matrix;
 
 // Four floats: a row of a matrix, or a packed row.
 #[repr(C)]
-#[derive(Drop)]
+#[derive(Clone, Copy)]
 pub struct Row {
     pub x: f32,
     pub y: f32,
@@ -13,7 +13,7 @@ pub struct Row {
 }
 
 #[repr(C)]
-#[derive(Drop)]
+#[derive(Clone, Copy)]
 pub struct D3DMATRIX {
     pub r0: Row,
     pub r1: Row,

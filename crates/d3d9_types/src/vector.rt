@@ -1,6 +1,6 @@
 // Positions and directions.
 #[repr(C)]
-#[derive(Drop)]
+#[derive(Clone, Copy)]
 pub struct D3DVECTOR {
     pub x: f32,
     pub y: f32,

@@ -6,20 +6,20 @@ use crate::state::FfState;
 use sections::ALL;
 use words::wide8;
 
-#[derive(Drop)]
+#[derive(Clone, Copy)]
 pub enum MarkAnswer {
     Accepted,
     // A bit above the eight.
     UnknownBits,
 }
 
-#[derive(Drop)]
+#[derive(Clone, Copy)]
 pub struct Marked {
     pub answer: MarkAnswer,
     pub state: FfState,
 }
 
-#[derive(Drop)]
+#[derive(Clone, Copy)]
 pub struct Taken {
     pub bits: u32,
     pub state: FfState,

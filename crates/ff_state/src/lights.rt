@@ -2,20 +2,20 @@
 use crate::state::FfState;
 use d3d9_types::D3DLIGHT9;
 
-#[derive(Drop)]
+#[derive(Clone, Copy)]
 pub enum LightAnswer {
     Accepted,
     // 56 other lights from index 8 on are stored.
     Full,
 }
 
-#[derive(Drop)]
+#[derive(Clone, Copy)]
 pub struct LightChanged {
     pub answer: LightAnswer,
     pub state: FfState,
 }
 
-#[derive(Drop)]
+#[derive(Clone, Copy)]
 pub enum LightRead {
     Light(D3DLIGHT9),
     Undefined,

@@ -11,7 +11,7 @@ use sections::ALL;
 // The lights from index 8 on stand in overflow_lights, by ascending index; the first overflow_count
 // are used. How odd values read is said in specs/State.antt.
 #[repr(C)]
-#[derive(Drop)]
+#[derive(Clone, Copy)]
 pub struct FfState {
     pub view: D3DMATRIX,
     pub projection: D3DMATRIX,

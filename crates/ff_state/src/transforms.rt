@@ -18,7 +18,7 @@ const TEXTURE_END: u32 = D3DTS_TEXTURE7 + 1;
 const WORLD_END: u32 = D3DTS_WORLD + 256;
 
 // Where a transform is stored.
-#[derive(Drop)]
+#[derive(Clone, Copy)]
 pub enum Place {
     View,
     Projection,
@@ -27,25 +27,25 @@ pub enum Place {
 }
 
 // What a number names.
-#[derive(Drop)]
+#[derive(Clone, Copy)]
 pub enum Slot {
     At(Place),
     Unknown,
 }
 
-#[derive(Drop)]
+#[derive(Clone, Copy)]
 pub enum TransformAnswer {
     Accepted,
     UnknownState,
 }
 
-#[derive(Drop)]
+#[derive(Clone, Copy)]
 pub struct TransformChanged {
     pub answer: TransformAnswer,
     pub state: FfState,
 }
 
-#[derive(Drop)]
+#[derive(Clone, Copy)]
 pub enum TransformRead {
     Matrix(D3DMATRIX),
     UnknownState,

@@ -9,7 +9,7 @@ ghost use Rattle.float32.specs.Steps.{operand_of, InRange, FieldsOf, Exact, near
 use crate::bits::{bits_of, of_bits};
 
 // What the first step finds: the answer, or the bits of an operand that is finite and above zero.
-#[derive(Drop)]
+#[derive(Clone, Copy)]
 enum Operand {
     Special(f32),
     Positive(u32),
@@ -17,7 +17,7 @@ enum Operand {
 
 // What the second step finds: the operand is (root * root + remainder) * 4^exponent, in units of
 // 2^-298.
-#[derive(Drop)]
+#[derive(Clone, Copy)]
 struct Root {
     root: u64,
     remainder: u64,
@@ -94,7 +94,7 @@ fn nearest(r: Root) -> u64
 // ---- within step 2: the operand's fields, and a whole-number root
 
 // A value above zero: significand * 2^exponent, in units of 2^-298.
-#[derive(Drop)]
+#[derive(Clone, Copy)]
 struct Fields {
     significand: u32,
     exponent: u32,

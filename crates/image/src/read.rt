@@ -8,14 +8,14 @@ use ff_state::FfState;
 use image_lists::{entries_at, lights_at, palette_at, set_mask, textures_at, type_mask};
 use image_reasons::image_refused;
 
-#[derive(Drop)]
+#[derive(Clone, Copy)]
 pub enum ReadAnswer {
     Accepted,
     // Some reason to refuse the bytes holds.
     NotAnImage,
 }
 
-#[derive(Drop)]
+#[derive(Clone, Copy)]
 pub struct ImageRead {
     pub answer: ReadAnswer,
     pub state: FfState,

@@ -8,7 +8,7 @@ use image_lists::{put_entries, put_lights, put_palette, put_textures};
 use image_reasons::IMAGE_LENGTH;
 use words::wide8;
 
-#[derive(Drop)]
+#[derive(Clone, Copy)]
 pub enum WriteAnswer {
     Written,
     // The destination is not as long as an image; it is left as it was.

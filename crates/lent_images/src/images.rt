@@ -8,7 +8,7 @@ use ff_state::FfState;
 use image::{ReadAnswer, WriteAnswer, read_image, write_image};
 
 // A call by value, its answer as document 01's number.
-#[derive(Drop)]
+#[derive(Clone, Copy)]
 pub struct Numbered {
     pub number: u32,
     pub state: FfState,

@@ -10,7 +10,7 @@ use light_table::light_type_contributes;
 use words::{has_bit, with_bit};
 
 // The masks that follow from the lights in the slots.
-#[derive(Drop)]
+#[derive(Clone, Copy)]
 pub struct Masks {
     pub set: u8,
     pub defined: u8,

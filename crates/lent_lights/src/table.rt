@@ -9,7 +9,7 @@ use ff_state::FfState;
 use light_table::{OverflowLight, find, inserted_at, used_count};
 
 // What a call leaves: the entries, how many are in use, the bits to mark, and the answer's number.
-#[derive(Drop)]
+#[derive(Clone, Copy)]
 pub struct Table {
     pub entries: [OverflowLight; 56],
     pub count: u16,

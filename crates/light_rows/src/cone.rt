@@ -6,7 +6,7 @@ use crate::floor::floored;
 use d3d9_types::D3DLIGHT_SPOT;
 use float32::cos;
 
-#[derive(Drop)]
+#[derive(Clone, Copy)]
 pub struct Cone {
     pub scale: f32,
     pub offset: f32,

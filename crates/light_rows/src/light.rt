@@ -13,7 +13,7 @@ use directions::unit_direction;
 use matrix::{view_transform_dir, view_transform_point};
 use rows::write_row;
 
-#[derive(Drop)]
+#[derive(Clone, Copy)]
 pub struct LightRows {
     pub position: Row,
     pub direction: Row,

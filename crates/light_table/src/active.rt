@@ -10,13 +10,13 @@ use d3d9_types::{D3DLIGHT9, default_light};
 use words::has_bit;
 
 // The first `len` are used; the others are the default light.
-#[derive(Drop)]
+#[derive(Clone, Copy)]
 pub struct ActiveLights {
     pub lights: [D3DLIGHT9; 8],
     pub len: usize,
 }
 
-#[derive(Drop)]
+#[derive(Clone, Copy)]
 pub struct LightMasks {
     pub active: u8,
     pub directional: u8,

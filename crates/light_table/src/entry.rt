@@ -6,7 +6,7 @@ use d3d9_types::{D3DCOLORVALUE, D3DLIGHT9, D3DVECTOR};
 
 // A light beyond the eight slots. It is enabled by any number but 0.
 #[repr(C)]
-#[derive(Drop)]
+#[derive(Clone, Copy)]
 pub struct OverflowLight {
     pub index: u32,
     pub enabled: u32,

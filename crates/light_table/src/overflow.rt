@@ -5,7 +5,7 @@ ghost use Rattle.light_table.specs.Overflow.{used_count, lower_bound, find_entry
 use crate::entry::OverflowLight;
 
 // Where the entry of an index stands, or would stand.
-#[derive(Drop)]
+#[derive(Clone, Copy)]
 pub struct Found {
     pub stored: bool,
     pub at: usize,

@@ -1,7 +1,7 @@
 // What `inverse` answers.
 use d3d9_types::D3DMATRIX;
 
-#[derive(Drop)]
+#[derive(Clone, Copy)]
 pub enum Inverse {
     Matrix(D3DMATRIX),
     Singular,

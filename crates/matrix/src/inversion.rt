@@ -9,7 +9,7 @@ use crate::transposition::transpose;
 use d3d9_types::{D3DMATRIX, Row};
 
 // The minors of two rows, by their columns.
-#[derive(Drop)]
+#[derive(Clone, Copy)]
 struct Minors {
     xy: f32,
     xz: f32,

@@ -4,7 +4,7 @@ ghost use Rattle.sections.specs.Counts.{section_rows};
 
 use sections::{FfVsKey, Section, section_rows};
 
-#[derive(Drop)]
+#[derive(Clone, Copy)]
 pub enum PackAnswer {
     Packed,
     // The destination is not four floats for each of the section's rows.

@@ -9,7 +9,7 @@ use ff_state::FfState;
 use light_table::low_bits;
 use sections::FfVsKey;
 
-#[derive(Drop)]
+#[derive(Clone, Copy)]
 pub enum RefreshAnswer {
     Accepted,
     // The mirror is not 1,115 rows of four floats.

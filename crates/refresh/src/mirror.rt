@@ -7,7 +7,7 @@ use crate::written::write_section;
 use ff_state::FfState;
 use sections::{FfVsKey, Section};
 
-#[derive(Drop)]
+#[derive(Clone, Copy)]
 pub struct Refreshed {
     pub answer: RefreshAnswer,
     // The dirty bits that were taken; 0 beside a refusal.

@@ -7,7 +7,7 @@ use replay_images::{Reply, item_call, put_item, put_key, put_mirror, state_call,
 use replay_text::Answer;
 
 // Calls by what they are lent.
-#[derive(Drop)]
+#[derive(Clone, Copy)]
 enum Kind {
     PutItem,
     PutKey,

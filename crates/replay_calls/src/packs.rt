@@ -3,7 +3,7 @@ use replay_images::{Reply, lent_len, reply_of, wide};
 use sections::Section;
 
 // The key's bytes, as numbers for a call.
-#[derive(Drop)]
+#[derive(Clone, Copy)]
 struct Key {
     has_rhw: u8,
     lighting_enabled: u8,
@@ -28,7 +28,7 @@ fn key_of(b: &[u8; 8]) -> Key {
     }
 }
 
-#[derive(Drop)]
+#[derive(Clone, Copy)]
 enum Named {
     Section(Section),
     None,

@@ -5,7 +5,7 @@ ghost use Rattle.replay_text.specs.Answer.{Within};
 
 use replay_text::Answer;
 
-#[derive(Drop)]
+#[derive(Clone, Copy)]
 pub enum Reply {
     // Accepted, with the number that it was lent: 0 where none.
     Done(u32),

@@ -6,7 +6,7 @@ use libc::STDIN_FILENO;
 
 // Where the bytes of the block that are not taken yet begin and end, how many bytes of the line are
 // kept, and whether its newline was found.
-#[derive(Drop)]
+#[derive(Clone, Copy)]
 pub struct Input {
     pub at: usize,
     pub end: usize,
@@ -26,7 +26,7 @@ pub fn start() -> Input
 }
 
 // The bytes of the block that are not taken yet.
-#[derive(Drop)]
+#[derive(Clone, Copy)]
 struct Left {
     at: usize,
     end: usize,

@@ -4,7 +4,7 @@ ghost use Rattle.replay_input.specs.Line.{Read};
 
 use replay_text::{Word, word_at};
 
-#[derive(Drop)]
+#[derive(Clone, Copy)]
 pub enum Line {
     // A letter, and how many words follow it.
     Call(u8, usize),

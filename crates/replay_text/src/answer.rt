@@ -5,7 +5,7 @@ ghost use Rattle.replay_text.specs.Answer.{Within};
 use crate::hex::put_word;
 use crate::text::put_text;
 
-#[derive(Drop)]
+#[derive(Clone, Copy)]
 pub enum Answer {
     // So many words of the answer's array.
     Words(usize),

@@ -7,13 +7,13 @@ ghost use Rattle.replay_text.specs.Text.{laid};
 use crate::text::put_text;
 
 // A byte's value as a digit.
-#[derive(Drop)]
+#[derive(Clone, Copy)]
 pub enum Digit {
     Value(u32),
     Bad,
 }
 
-#[derive(Drop)]
+#[derive(Clone, Copy)]
 pub enum Word {
     Value(u32),
     Bad,

@@ -2,7 +2,7 @@
 ghost use Rattle.std.specs.Prelude.{◌≡◌};
 ghost use Rattle.sections.specs.Sections.{bit_of, first_row};
 
-#[derive(Drop)]
+#[derive(Clone, Copy)]
 pub enum Section {
     Wv,
     Proj,

@@ -5,10 +5,10 @@ use borrow.Author.Rules.{rules}
 use Rattle.words.proofs.bits.has_bit.Statement.{statement}
 use Rattle.words.proofs.bits.has_bit.Tie as tie
 
-cast-result : tie.Need-overflow-cast-result
+cast-result : tie.Need-overflow_cast-result
 cast-result c = search rules
 
-shr-result : tie.Need-overflow-shr-result
+shr-result : tie.Need-overflow_shr-result
 shr-result c = search rules
 
 returns : tie.Need-returns

@@ -27,31 +27,31 @@ code c =
     let l : h < 2 ^ 32 = omega (arith, with_bit_is m i c.args.on, small c) in
     ap₂ (λ (x y : ℕ). x + m % y) (mod-eq_of_lt l) (one-moved c) ∙ with_bit_is m i c.args.on
 
-shr_high : tie.Need-overflow-shr-high
+shr_high : tie.Need-overflow_shr-high
 shr_high c = search rules
 
-mul-high : tie.Need-overflow-mul-high
+mul-high : tie.Need-overflow_mul-high
 mul-high c = omega (arith, shr_le c.args.mask c.args.i)
 
-shl-low : tie.Need-overflow-shl-low
+shl-low : tie.Need-overflow_shl-low
 shl-low c = search rules
 
-rem-low : tie.Need-nonzero-rem-low
+rem-low : tie.Need-nonzero_rem-low
 rem-low c = rw (one-moved c) (pow_pos c.args.i)
 
-cast-result : tie.Need-overflow-cast-result
+cast-result : tie.Need-overflow_cast-result
 cast-result c = search rules
 
-add-result : tie.Need-overflow-add-result
+add-result : tie.Need-overflow_add-result
 add-result c = omega (arith, shr_le c.args.mask c.args.i, flag_small c.args.on)
 
-shl-result : tie.Need-overflow-shl-result
+shl-result : tie.Need-overflow_shl-result
 shl-result c = search rules
 
-add-result-2 : tie.Need-overflow-add-result-2
+add-result-2 : tie.Need-overflow_add-result-2
 add-result-2 c = rw (code c) (omega (arith, small c))
 
-cast-result-2 : tie.Need-overflow-cast-result-2
+cast-result-2 : tie.Need-overflow_cast-result-2
 cast-result-2 c = rw (code c) (omega (arith, small c))
 
 returns : tie.Need-returns
