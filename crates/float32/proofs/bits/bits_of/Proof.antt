@@ -9,15 +9,18 @@ use Rattle.float32.proofs.Nan.{differs, same}
 use Rattle.float32.proofs.bits.bits_of.Statement.{statement}
 use Rattle.float32.proofs.bits.bits_of.Tie as tie
 
-returns : tie.Need-returns
+returns-then-x : tie.Need-returns-then-x
 unfolding to_bits
-returns c = sym (ap (to_bits binary32) (differs c.before.args.x c.if1.true))
+returns-then-x c = sym (ap (to_bits binary32) (differs c.before.args.x c.if-x.true))
 
-float-to-bits-result : tie.Need-float-to-bits-result
-float-to-bits-result c = subst (λ (t : Bool). T (not t)) (sym (same c.before.args.x c.if1.false)) tt
+float_to_bits-result : tie.Need-float_to_bits-result
+float_to_bits-result c = subst (λ (t : Bool). T (not t)) (sym (same c.before.args.x c.if-x.false)) tt
 
-returns-2 : tie.Need-returns-2
-returns-2 c = search rules
+returns : tie.Need-returns
+returns c = search rules
 
 pub bits_of_spec : {M : Type 1} → statement M
-bits_of_spec = tie.close (tie.spec returns float-to-bits-result returns-2)
+bits_of_spec = tie.close (tie.spec
+    returns-then-x
+    float_to_bits-result
+    returns)

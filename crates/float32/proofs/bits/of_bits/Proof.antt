@@ -9,15 +9,18 @@ use Rattle.float32.proofs.Nan.{above_is_nan, below_is_no_nan}
 use Rattle.float32.proofs.bits.of_bits.Statement.{statement}
 use Rattle.float32.proofs.bits.of_bits.Tie as tie
 
-returns : tie.Need-returns
+returns-then-n-gt2139095040 : tie.Need-returns-then-n-gt2139095040
 unfolding div of_bits
-returns c = sym (above_is_nan c.before.args.n c.if1.true)
+returns-then-n-gt2139095040 c = sym (above_is_nan c.before.args.n c.if-n-gt2139095040.true)
 
-float-from-bits-result : tie.Need-float-from-bits-result
-float-from-bits-result c = subst (λ (t : Bool). T (not t)) (sym (below_is_no_nan c.before.args.n c.if1.false)) tt
+float_from_bits-result : tie.Need-float_from_bits-result
+float_from_bits-result c = subst (λ (t : Bool). T (not t)) (sym (below_is_no_nan c.before.args.n c.if-n-gt2139095040.false)) tt
 
-returns-2 : tie.Need-returns-2
-returns-2 c = search rules
+returns : tie.Need-returns
+returns c = search rules
 
 pub of_bits_spec : {M : Type 1} → statement M
-of_bits_spec = tie.close (tie.spec returns float-from-bits-result returns-2)
+of_bits_spec = tie.close (tie.spec
+    returns-then-n-gt2139095040
+    float_from_bits-result
+    returns)

@@ -9,26 +9,26 @@ use Rattle.float32.proofs.cosine.Laws.{cos_is}
 use Rattle.float32.proofs.cosine.cos.Statement.{statement}
 use Rattle.float32.proofs.cosine.cos.Tie as tie
 
-magnitude-of-requires : tie.Need-magnitude-of-requires
-magnitude-of-requires c κs = search rules
+magnitude_of-requires : tie.Need-magnitude_of-requires
+magnitude_of-requires c κs = search rules
 
-fold-requires : tie.Need-fold-requires
-fold-requires c κs = search rules
+fold-r-requires : tie.Need-fold-r-requires
+fold-r-requires c κs = search rules
 
-float-from-bits-if1 : tie.Need-float-from-bits-if1
+float_from_bits-t-3 : tie.Need-float_from_bits-t-3
 unfolding nan_bits
-float-from-bits-if1 c = tt
+float_from_bits-t-3 c = tt
 
-float-from-bits-series : tie.Need-float-from-bits-series
+float_from_bits-series : tie.Need-float_from_bits-series
 unfolding nan_bits
-float-from-bits-series c = tt
+float_from_bits-series c = tt
 
 series-requires : tie.Need-series-requires
 series-requires c κs = search rules
 
 -- the folded angle
-angle : (c : tie.After-fold) → cos_folded c.fold.result ≡ cos_of c.before.before.args.x
-angle c = ap cos_folded (c.fold.ensures ∙ ap folded c.before.magnitude-of.ensures) ∙ sym (cos_is c.before.before.args.x)
+angle : (c : tie.After-fold-r) → cos_folded c.fold-r.result ≡ cos_of c.before.before.args.x
+angle c = ap cos_folded (c.fold-r.ensures ∙ ap folded c.before.magnitude_of.ensures) ∙ sym (cos_is c.before.before.args.x)
 
 beyond : (r : Float) → lt quarter_turn r ≡ true → neg (polynomial (sub binary32 half_turn r)) ≡ cos_folded r
 unfolding cos_folded
@@ -38,30 +38,30 @@ within : (r : Float) → lt quarter_turn r ≡ false → polynomial r ≡ cos_fo
 unfolding cos_folded
 within r e = rw e
 
-returns : tie.Need-returns
+returns-then-r : tie.Need-returns-then-r
 unfolding quarter_turn half_turn
-returns c =
+returns-then-r c =
     let at = c.before.before in
-    ap neg c.series.ensures ∙ beyond at.fold.result c.before.if1.true ∙ angle at
+    ap neg c.series.ensures ∙ beyond at.fold-r.result c.before.if-r.true ∙ angle at
 
 series-requires-2 : tie.Need-series-requires-2
 series-requires-2 c κs = search rules
 
-returns-2 : tie.Need-returns-2
+returns : tie.Need-returns
 unfolding quarter_turn
-returns-2 c =
+returns c =
     let at = c.before.before in
-    c.series2.ensures ∙ within at.fold.result c.before.if1.false ∙ angle at
+    c.series-2.ensures ∙ within at.fold-r.result c.before.if-r.false ∙ angle at
 
 pub cos_spec : {M : Type 1} → statement M
 cos_spec =
     tie.close
     (tie.spec
-    magnitude-of-requires
-    fold-requires
-    float-from-bits-if1
-    float-from-bits-series
+    magnitude_of-requires
+    fold-r-requires
+    float_from_bits-t-3
+    float_from_bits-series
     series-requires
-    returns
+    returns-then-r
     series-requires-2
-    returns-2)
+    returns)

@@ -4,21 +4,25 @@ use Rattle.float32.specs.Cosine.{turn, half_turn, folded}
 use Rattle.float32.proofs.cosine.fold.Statement.{statement}
 use Rattle.float32.proofs.cosine.fold.Tie as tie
 
-float-from-bits-turn : tie.Need-float-from-bits-turn
+float_from_bits-turn : tie.Need-float_from_bits-turn
 unfolding nan_bits
-float-from-bits-turn c = tt
+float_from_bits-turn c = tt
 
-float-from-bits-if1 : tie.Need-float-from-bits-if1
+float_from_bits-t-4 : tie.Need-float_from_bits-t-4
 unfolding nan_bits
-float-from-bits-if1 c = tt
+float_from_bits-t-4 c = tt
+
+returns-then-r : tie.Need-returns-then-r
+unfolding folded turn half_turn
+returns-then-r c = rw c.if-r.true
 
 returns : tie.Need-returns
 unfolding folded turn half_turn
-returns c = rw c.if1.true
-
-returns-2 : tie.Need-returns-2
-unfolding folded turn half_turn
-returns-2 c = rw c.if1.false
+returns c = rw c.if-r.false
 
 pub fold_spec : {M : Type 1} → statement M
-fold_spec = tie.close (tie.spec float-from-bits-turn float-from-bits-if1 returns returns-2)
+fold_spec = tie.close (tie.spec
+    float_from_bits-turn
+    float_from_bits-t-4
+    returns-then-r
+    returns)

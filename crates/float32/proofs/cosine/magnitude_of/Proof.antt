@@ -11,21 +11,24 @@ use Rattle.float32.proofs.cosine.Magnitude.{magnitude_fits, magnitude-bits}
 use Rattle.float32.proofs.cosine.magnitude_of.Statement.{statement}
 use Rattle.float32.proofs.cosine.magnitude_of.Tie as tie
 
-bits-of-requires : tie.Need-bits-of-requires
-bits-of-requires c κs = search rules
+bits_of-requires : tie.Need-bits_of-requires
+bits_of-requires c κs = search rules
 
-of-bits-requires : tie.Need-of-bits-requires
-of-bits-requires c κs = search rules
+of_bits-requires : tie.Need-of_bits-requires
+of_bits-requires c κs = search rules
 
 returns : tie.Need-returns
 returns c =
     let start = c.before.before in
     let x = start.args.x in
-    let value : T (fits binary32 x) = subst T (sym start.well-formed.0.1) tt in
-    c.of-bits.ensures
+    let value : T (fits binary32 x) = subst T (sym start.well_formed.0.1) tt in
+    c.of_bits.ensures
     ∙ ap (λ (n : ℕ). of_bits binary32 (n % 2 ^ 31)) c.before.bits_of.ensures
     ∙ ap (of_bits binary32) (magnitude-bits x value)
     ∙ of_bits-to_bits binary32 (magnitude x) (magnitude_fits x value)
 
 pub magnitude_of_spec : {M : Type 1} → statement M
-magnitude_of_spec = tie.close (tie.spec bits-of-requires of-bits-requires returns)
+magnitude_of_spec = tie.close (tie.spec
+    bits_of-requires
+    of_bits-requires
+    returns)

@@ -10,4 +10,5 @@ unfolding polynomial horner fraction of_bits of_int neg
 returns c = refl
 
 pub series_spec : {M : Type 1} → statement M
-series_spec = tie.close (tie.spec returns)
+series_spec = tie.close (tie.spec
+    returns)

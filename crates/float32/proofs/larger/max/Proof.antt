@@ -6,17 +6,20 @@ use Rattle.float32.proofs.Nan.{differs, same}
 use Rattle.float32.proofs.larger.max.Statement.{statement}
 use Rattle.float32.proofs.larger.max.Tie as tie
 
+returns-then-a-b : tie.Need-returns-then-a-b
+unfolding larger
+returns-then-a-b c = rw c.if-a-b.true
+
+returns-then-a : tie.Need-returns-then-a
+unfolding larger is_nan lt
+returns-then-a c = rw (differs c.before.before.args.a c.if-a.true)
+
 returns : tie.Need-returns
 unfolding larger
-returns c = rw c.if1.true
-
-returns-2 : tie.Need-returns-2
-unfolding larger is_nan lt
-returns-2 c = rw (differs c.before.before.args.a c.if2.true)
-
-returns-3 : tie.Need-returns-3
-unfolding larger
-returns-3 c = rw (c.before.if1.false, same c.before.before.args.a c.if2.false)
+returns c = rw (c.before.if-a-b.false, same c.before.before.args.a c.if-a.false)
 
 pub max_spec : {M : Type 1} → statement M
-max_spec = tie.close (tie.spec returns returns-2 returns-3)
+max_spec = tie.close (tie.spec
+    returns-then-a-b
+    returns-then-a
+    returns)

@@ -43,65 +43,65 @@ dropped k n r s h q i t =
     ∙ sym (step k n r h)
     ∙ i
 
-abbrev invariant-loop : tie.invariant-loop
-invariant-loop n r₀ k₀ r k = (root_from k n r ≡ floor_root n) × (k ≤ 24) × (r + 2 ^ k ≤ 2 ^ 24)
+abbrev invariant-loop-k : tie.invariant-loop-k
+invariant-loop-k n r₀ k₀ r k = (root_from k n r ≡ floor_root n) × (k ≤ 24) × (r + 2 ^ k ≤ 2 ^ 24)
 
-abbrev decreases-loop : tie.decreases-loop
-decreases-loop n r₀ k₀ r k = k
+abbrev decreases-loop-k : tie.decreases-loop-k
+decreases-loop-k n r₀ k₀ r k = k
 
-loop-holds : tie.Need-loop-init invariant-loop decreases-loop
+loop-k-init : tie.Need-loop-k-init invariant-loop-k decreases-loop-k
 unfolding floor_root
-loop-holds c = (refl, le_refl 24, le_refl (2 ^ 24))
+loop-k-init c = (refl, le_refl 24, le_refl (2 ^ 24))
 
-sub-k : tie.Need-overflow-sub-k invariant-loop decreases-loop
-sub-k c = omega arith
+overflow_sub-k : tie.Need-overflow_sub-k invariant-loop-k decreases-loop-k
+overflow_sub-k c = omega arith
 
-shl-next : tie.Need-overflow-shl-next invariant-loop decreases-loop
-shl-next c = omega arith
+overflow_shl-next : tie.Need-overflow_shl-next invariant-loop-k decreases-loop-k
+overflow_shl-next c = omega arith
 
 -- the next guess, as the code writes it and as a sum, and that it is small
-next : (c : tie.In-loop invariant-loop decreases-loop) → (1 * 2 ^ (c.before.loop.k - 1)) % 2 ^ 64 ≡ 2 ^ (c.before.loop.k - 1)
-next c = one_shl (c.before.loop.k - 1) (omega arith)
+next : (c : tie.In-loop-k invariant-loop-k decreases-loop-k) → (1 * 2 ^ (c.before.loop-k.k - 1)) % 2 ^ 64 ≡ 2 ^ (c.before.loop-k.k - 1)
+next c = one_shl (c.before.loop-k.k - 1) (omega arith)
 
-small : (c : tie.In-loop invariant-loop decreases-loop) → c.before.loop.r + (1 * 2 ^ (c.before.loop.k - 1)) % 2 ^ 64 ≤ 2 ^ 24
-small c = rw (next c) (omega (arith, room c.before.loop.k c.before.loop.r c.loop-test.true c.before.loop.invariant.2))
+small : (c : tie.In-loop-k invariant-loop-k decreases-loop-k) → c.before.loop-k.r + (1 * 2 ^ (c.before.loop-k.k - 1)) % 2 ^ 64 ≤ 2 ^ 24
+small c = rw (next c) (omega (arith, room c.before.loop-k.k c.before.loop-k.r c.loop-k-test.true c.before.loop-k.invariant.2))
 
-add-next : tie.Need-overflow-add-next invariant-loop decreases-loop
-add-next c = record { fits = lt_of_le_of_lt (small c) (lit< tt) }
+overflow_add-next : tie.Need-overflow_add-next invariant-loop-k decreases-loop-k
+overflow_add-next c = record { fits = lt_of_le_of_lt (small c) (lit< tt) }
 
-mul-if1 : tie.Need-overflow-mul-if1 invariant-loop decreases-loop
-mul-if1 c = record { fits = lt_of_le_of_lt (mul-le-mul (small c) (small c)) (lit< tt) }
+overflow_mul-next : tie.Need-overflow_mul-next invariant-loop-k decreases-loop-k
+overflow_mul-next c = record { fits = lt_of_le_of_lt (mul-le-mul (small c) (small c)) (lit< tt) }
 
-loop-less : tie.Need-loop-smaller invariant-loop decreases-loop
-loop-less c = omega arith
+loop-k-smaller-then-next-n : tie.Need-loop-k-smaller-then-next-n invariant-loop-k decreases-loop-k
+loop-k-smaller-then-next-n c = omega arith
 
-loop-again : tie.Need-loop-preserved invariant-loop decreases-loop
-loop-again c =
+loop-k-preserved-then-next-n : tie.Need-loop-k-preserved-then-next-n invariant-loop-k decreases-loop-k
+loop-k-preserved-then-next-n c =
     let i = c.before in
-    let l = i.before.loop in
+    let l = i.before.loop-k in
     let q : l.r + (1 * 2 ^ (l.k - 1)) % 2 ^ 64 ≡ l.r + 2 ^ (l.k - 1) = ap (λ (x : ℕ). l.r + x) (next i) in (
-      kept l.k i.before.before.args.n l.r (l.r + (1 * 2 ^ (l.k - 1)) % 2 ^ 64) i.loop-test.true q l.invariant.0 c.if1.true,
+      kept l.k i.before.before.args.n l.r (l.r + (1 * 2 ^ (l.k - 1)) % 2 ^ 64) i.loop-k-test.true q l.invariant.0 c.if-next-n.true,
       omega arith,
-      rw (next i) (room l.k l.r i.loop-test.true l.invariant.2),
+      rw (next i) (room l.k l.r i.loop-k-test.true l.invariant.2),
     )
 
-loop-less-2 : tie.Need-loop-smaller-2 invariant-loop decreases-loop
-loop-less-2 c = omega arith
+loop-k-smaller : tie.Need-loop-k-smaller invariant-loop-k decreases-loop-k
+loop-k-smaller c = omega arith
 
-loop-again-2 : tie.Need-loop-preserved-2 invariant-loop decreases-loop
-loop-again-2 c =
+loop-k-preserved : tie.Need-loop-k-preserved invariant-loop-k decreases-loop-k
+loop-k-preserved c =
     let i = c.before in
-    let l = i.before.loop in
+    let l = i.before.loop-k in
     let q : l.r + (1 * 2 ^ (l.k - 1)) % 2 ^ 64 ≡ l.r + 2 ^ (l.k - 1) = ap (λ (x : ℕ). l.r + x) (next i) in (
-      dropped l.k i.before.before.args.n l.r (l.r + (1 * 2 ^ (l.k - 1)) % 2 ^ 64) i.loop-test.true q l.invariant.0 c.if1.false,
+      dropped l.k i.before.before.args.n l.r (l.r + (1 * 2 ^ (l.k - 1)) % 2 ^ 64) i.loop-k-test.true q l.invariant.0 c.if-next-n.false,
       omega arith,
-      omega (arith, room l.k l.r i.loop-test.true l.invariant.2),
+      omega (arith, room l.k l.r i.loop-k-test.true l.invariant.2),
     )
 
-returns : tie.Need-returns invariant-loop decreases-loop
+returns : tie.Need-returns invariant-loop-k decreases-loop-k
 unfolding root_from
 returns c =
-    let l = c.before.loop in
+    let l = c.before.loop-k in
     let z : l.k ≡ 0 = omega arith in
     rw z at l.invariant.0
 
@@ -109,15 +109,15 @@ pub digit_root_spec : {M : Type 1} → statement M
 digit_root_spec =
     tie.close
     (tie.spec
-    invariant-loop
-    decreases-loop
-    loop-holds
-    sub-k
-    shl-next
-    add-next
-    mul-if1
-    loop-less
-    loop-again
-    loop-less-2
-    loop-again-2
+    invariant-loop-k
+    decreases-loop-k
+    loop-k-init
+    overflow_sub-k
+    overflow_shl-next
+    overflow_add-next
+    overflow_mul-next
+    loop-k-smaller-then-next-n
+    loop-k-preserved-then-next-n
+    loop-k-smaller
+    loop-k-preserved
     returns)

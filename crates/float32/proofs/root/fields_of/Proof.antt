@@ -57,35 +57,35 @@ subnormal b z field few low high =
       most = omega arith;
     }
 
-at-subnormal : (c : tie.Then1) → Moved c.before.args.b
-at-subnormal c = moved c.before.args.b c.before.requires.0 (omega (arith, c.if1.true))
+at-subnormal : (c : tie.Then-field-eq0) → Moved c.before.args.b
+at-subnormal c = moved c.before.args.b c.before.requires.0 (omega (arith, c.if-field-eq0.true))
 
-sub-z : tie.Need-overflow-sub-z
-sub-z c = omega (arith, (at-subnormal c).enough)
+overflow_sub-z : tie.Need-overflow_sub-z
+overflow_sub-z c = omega (arith, (at-subnormal c).enough)
 
-shl-t5 : tie.Need-overflow-shl-t5
-shl-t5 c = omega (arith, (at-subnormal c).few)
+overflow_shl-result : tie.Need-overflow_shl-result
+overflow_shl-result c = omega (arith, (at-subnormal c).few)
 
-sub-t6 : tie.Need-overflow-sub-t6
-sub-t6 c = omega (arith, (at-subnormal c).few)
+overflow_sub-result : tie.Need-overflow_sub-result
+overflow_sub-result c = omega (arith, (at-subnormal c).few)
+
+returns-then-field-eq0 : tie.Need-returns-then-field-eq0
+returns-then-field-eq0 c =
+    let m = at-subnormal c in
+    subnormal c.before.args.b _ c.if-field-eq0.true (omega (arith, m.few)) m.low m.high
+
+overflow_add-result : tie.Need-overflow_add-result
+overflow_add-result c = search rules
+
+overflow_add-result-2 : tie.Need-overflow_add-result-2
+overflow_add-result-2 c = search rules
 
 returns : tie.Need-returns
 returns c =
-    let m = at-subnormal c in
-    subnormal c.before.args.b _ c.if1.true (omega (arith, m.few)) m.low m.high
-
-add-t8 : tie.Need-overflow-add-t8
-add-t8 c = search rules
-
-add-t9 : tie.Need-overflow-add-t9
-add-t9 c = search rules
-
-returns-2 : tie.Need-returns-2
-returns-2 c =
     let b = c.before.args.b in
     let f : ℕ = b / 2 ^ 23 in
     let q : ℕ = 2 ^ 23 + b % 2 ^ 23 in
-    let field : f ≡ suc (f - 1) = omega (arith, c.if1.false) in
+    let field : f ≡ suc (f - 1) = omega (arith, c.if-field-eq0.false) in
     let sum : f - 1 + 149 ≡ f + 148 = omega arith in
     record {
       value =
@@ -98,4 +98,11 @@ returns-2 c =
     }
 
 pub fields_of_spec : {M : Type 1} → statement M
-fields_of_spec = tie.close (tie.spec sub-z shl-t5 sub-t6 returns add-t8 add-t9 returns-2)
+fields_of_spec = tie.close (tie.spec
+    overflow_sub-z
+    overflow_shl-result
+    overflow_sub-result
+    returns-then-field-eq0
+    overflow_add-result
+    overflow_add-result-2
+    returns)

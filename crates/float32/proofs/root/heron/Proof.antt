@@ -8,17 +8,21 @@ use Rattle.float32.proofs.Nan.{same}
 use Rattle.float32.proofs.root.heron.Statement.{statement}
 use Rattle.float32.proofs.root.heron.Tie as tie
 
+returns-then-u : tie.Need-returns-then-u
+returns-then-u c = search rules
+
+float_to_bits-result : tie.Need-float_to_bits-result
+float_to_bits-result c = subst (λ (t : Bool). T (not t)) (sym (same _ c.if-u.false)) tt
+
+overflow_add-result : tie.Need-overflow_add-result
+overflow_add-result c = search rules
+
 returns : tie.Need-returns
 returns c = search rules
 
-float-to-bits-result : tie.Need-float-to-bits-result
-float-to-bits-result c = subst (λ (t : Bool). T (not t)) (sym (same _ c.if1.false)) tt
-
-add-result : tie.Need-overflow-add-result
-add-result c = search rules
-
-returns-2 : tie.Need-returns-2
-returns-2 c = search rules
-
 pub heron_spec : {M : Type 1} → statement M
-heron_spec = tie.close (tie.spec returns float-to-bits-result add-result returns-2)
+heron_spec = tie.close (tie.spec
+    returns-then-u
+    float_to_bits-result
+    overflow_add-result
+    returns)

@@ -7,16 +7,19 @@ use Rattle.float32.specs.Steps.{nearest_of}
 use Rattle.float32.proofs.root.nearest.Statement.{statement}
 use Rattle.float32.proofs.root.nearest.Tie as tie
 
+returns-then-r : tie.Need-returns-then-r
+unfolding nearest_of
+returns-then-r c = rw (le-leb _ _ c.if-r.true)
+
+overflow_add-result : tie.Need-overflow_add-result
+overflow_add-result c = search rules
+
 returns : tie.Need-returns
 unfolding nearest_of
-returns c = rw (le-leb _ _ c.if1.true)
-
-add-result : tie.Need-overflow-add-result
-add-result c = search rules
-
-returns-2 : tie.Need-returns-2
-unfolding nearest_of
-returns-2 c = add-one c.before.before.before.args.r.root ∙ rw (lt-leb _ _ c.before.if1.false)
+returns c = add-one c.before.before.before.args.r.root ∙ rw (lt-leb _ _ c.before.if-r.false)
 
 pub nearest_spec : {M : Type 1} → statement M
-nearest_spec = tie.close (tie.spec returns add-result returns-2)
+nearest_spec = tie.close (tie.spec
+    returns-then-r
+    overflow_add-result
+    returns)

@@ -4,17 +4,21 @@ use Rattle.float32.proofs.root.Squares.{square_fits}
 use Rattle.float32.proofs.root.not_above.Statement.{statement}
 use Rattle.float32.proofs.root.not_above.Tie as tie
 
-mul-if1 : tie.Need-overflow-mul-if1
-mul-if1 c = square_fits c.args.g c.requires.1
+overflow_mul-g : tie.Need-overflow_mul-g
+overflow_mul-g c = square_fits c.args.g c.requires.1
 
-sub-result : tie.Need-overflow-sub-result
-sub-result c = search rules
+overflow_sub-result : tie.Need-overflow_sub-result
+overflow_sub-result c = search rules
+
+returns-then-n-g : tie.Need-returns-then-n-g
+returns-then-n-g c = search rules
 
 returns : tie.Need-returns
 returns c = search rules
 
-returns-2 : tie.Need-returns-2
-returns-2 c = search rules
-
 pub not_above_spec : {M : Type 1} → statement M
-not_above_spec = tie.close (tie.spec mul-if1 sub-result returns returns-2)
+not_above_spec = tie.close (tie.spec
+    overflow_mul-g
+    overflow_sub-result
+    returns-then-n-g
+    returns)

@@ -29,48 +29,48 @@ taken_out q s l =
     ∙ ap (λ (x : ℕ). q * x) (pow-add 2 w (k + k) ∙ ap (λ (x : ℕ). 2 ^ w * x) (pow-add 2 k k))
     ∙ sym (mul_assoc q (2 ^ w) (2 ^ k * 2 ^ k))
 
-fields-of-requires : tie.Need-fields-of-requires
-fields-of-requires c κs = search rules
+fields_of-f-requires : tie.Need-fields_of-f-requires
+fields_of-f-requires c κs = search rules
 
-with-even-exponent-requires : tie.Need-with-even-exponent-requires
-with-even-exponent-requires c κs = search rules
+with_even_exponent-n-requires : tie.Need-with_even_exponent-n-requires
+with_even_exponent-n-requires c κs = search rules
 
 guess-requires : tie.Need-guess-requires
 guess-requires c κs = search rules
 
-sized : (c : tie.After-with-even-exponent) → (2 ^ 46 ≤ c.with-even-exponent.result) × (c.with-even-exponent.result < 2 ^ 48)
+sized : (c : tie.After-with_even_exponent-n) → (2 ^ 46 ≤ c.with_even_exponent-n.result) × (c.with_even_exponent-n.result < 2 ^ 48)
 sized c =
-    let f = c.before.fields-of.result in
-    let h = c.before.fields-of.ensures in
-    rw c.with-even-exponent.ensures (digits f.significand f.exponent h.low h.high)
+    let f = c.before.fields_of-f.result in
+    let h = c.before.fields_of-f.ensures in
+    rw c.with_even_exponent-n.ensures (digits f.significand f.exponent h.low h.high)
 
-floor-root-requires : tie.Need-floor-root-requires
-floor-root-requires c κs = ((sized c.before).1, c.guess.ensures.0, c.guess.ensures.1)
+floor_root-root-requires : tie.Need-floor_root-root-requires
+floor_root-root-requires c κs = ((sized c.before).1, c.guess.ensures.0, c.guess.ensures.1)
 
-is-root : (c : tie.After-floor-root) → IsRoot c.before.before.with-even-exponent.result c.floor-root.result
+is-root : (c : tie.After-floor_root-root) → IsRoot c.before.before.with_even_exponent-n.result c.floor_root-root.result
 is-root c =
-    let n = c.before.before.with-even-exponent.result in
-    subst (IsRoot n) (sym c.floor-root.ensures) (floor-root n (sized c.before.before).1)
+    let n = c.before.before.with_even_exponent-n.result in
+    subst (IsRoot n) (sym c.floor_root-root.ensures) (floor-root n (sized c.before.before).1)
 
-small : (c : tie.After-floor-root) → c.floor-root.result < 2 ^ 24
-small c = subst (λ (r : ℕ). r < 2 ^ 24) (sym c.floor-root.ensures) (floor_small c.before.before.with-even-exponent.result (sized c.before.before).1)
+small : (c : tie.After-floor_root-root) → c.floor_root-root.result < 2 ^ 24
+small c = subst (λ (r : ℕ). r < 2 ^ 24) (sym c.floor_root-root.ensures) (floor_small c.before.before.with_even_exponent-n.result (sized c.before.before).1)
 
-mul-t5 : tie.Need-overflow-mul-t5
-mul-t5 c = square_fits c.floor-root.result (small c)
+overflow_mul-result : tie.Need-overflow_mul-result
+overflow_mul-result c = square_fits c.floor_root-root.result (small c)
 
-sub-t6 : tie.Need-overflow-sub-t6
-sub-t6 c = (is-root c).0
+overflow_sub-result : tie.Need-overflow_sub-result
+overflow_sub-result c = (is-root c).0
 
-sub-t7 : tie.Need-overflow-sub-t7
-sub-t7 c = search rules
+overflow_sub-result-2 : tie.Need-overflow_sub-result-2
+overflow_sub-result-2 c = search rules
 
 returns : tie.Need-returns
 returns c =
     let at = c.before in
-    let n = at.before.before.with-even-exponent.result in
-    let f = at.before.before.before.fields-of.result in
-    let h = at.before.before.before.fields-of.ensures in
-    let r = at.floor-root.result in
+    let n = at.before.before.with_even_exponent-n.result in
+    let f = at.before.before.before.fields_of-f.result in
+    let h = at.before.before.before.fields_of-f.ensures in
+    let r = at.floor_root-root.result in
     let i = is-root at in
     let sum : r * r + (n - r * r) ≡ n = omega (arith, i.0) in
     let k : ℕ = (f.exponent - 23) / 2 in
@@ -78,7 +78,7 @@ returns c =
       value =
           h.value
           ∙ taken_out f.significand f.exponent h.least
-          ∙ ap (λ (x : ℕ). x * (2 ^ k * 2 ^ k)) (sym (sum ∙ at.before.before.with-even-exponent.ensures));
+          ∙ ap (λ (x : ℕ). x * (2 ^ k * 2 ^ k)) (sym (sum ∙ at.before.before.with_even_exponent-n.ensures));
       less = omega (arith, rw (next_square r) at i.1);
       low = le_of_suc-le-suc (square_lt {a = 2 ^ 23} {b = suc r} (lt_of_le_of_lt (sized at.before.before).0 i.1));
       high = small at;
@@ -89,11 +89,11 @@ pub root_with_remainder_spec : {M : Type 1} → statement M
 root_with_remainder_spec =
     tie.close
     (tie.spec
-    fields-of-requires
-    with-even-exponent-requires
+    fields_of-f-requires
+    with_even_exponent-n-requires
     guess-requires
-    floor-root-requires
-    mul-t5
-    sub-t6
-    sub-t7
+    floor_root-root-requires
+    overflow_mul-result
+    overflow_sub-result
+    overflow_sub-result-2
     returns)

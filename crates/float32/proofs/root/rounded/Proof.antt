@@ -20,8 +20,8 @@ bounds_of r low high =
     (λ (e : below_midpoint r ≡ true). (low, omega arith))
     (λ (e : below_midpoint r ≡ false). (omega arith, omega arith))
 
-mul-of-bits : tie.Need-overflow-mul-of-bits
-mul-of-bits c = search rules
+overflow_mul-r : tie.Need-overflow_mul-r
+overflow_mul-r c = search rules
 
 nearest-requires : tie.Need-nearest-requires
 nearest-requires c κs = search rules
@@ -29,14 +29,14 @@ nearest-requires c κs = search rules
 bounds : (c : tie.After-nearest) → (2 ^ 23 ≤ c.nearest.result) × (c.nearest.result ≤ 2 ^ 24)
 bounds c = rw c.nearest.ensures (bounds_of c.before.before.args.r c.before.before.requires.0 c.before.before.requires.1)
 
-cast-of-bits : tie.Need-overflow-cast-of-bits
-cast-of-bits c = record { fits = omega (arith, (bounds c).1) }
+overflow_cast-nearest : tie.Need-overflow_cast-nearest
+overflow_cast-nearest c = record { fits = omega (arith, (bounds c).1) }
 
-add-of-bits : tie.Need-overflow-add-of-bits
-add-of-bits c = record { fits = omega (arith, (bounds c).1, c.before.before.requires.2) }
+overflow_add-r : tie.Need-overflow_add-r
+overflow_add-r c = record { fits = omega (arith, (bounds c).1, c.before.before.requires.2) }
 
-of-bits-requires : tie.Need-of-bits-requires
-of-bits-requires c κs = search rules
+of_bits-requires : tie.Need-of_bits-requires
+of_bits-requires c κs = search rules
 
 returns : tie.Need-returns
 unfolding rounded_root
@@ -44,11 +44,17 @@ returns c =
     let at = c.before in
     let start = at.before.before in
     let near = start.requires.2 in
-    c.of-bits.ensures
+    c.of_bits.ensures
     ∙ made at.nearest.result start.args.r.exponent (bounds at).0 (bounds at).1 (omega arith)
     ∙ ap (λ (q : ℕ). odd 25 false q start.args.r.exponent 149) at.nearest.ensures
 
 pub rounded_spec : {M : Type 1} → statement M
 rounded_spec =
     tie.close
-    (tie.spec mul-of-bits nearest-requires cast-of-bits add-of-bits of-bits-requires returns)
+    (tie.spec
+    overflow_mul-r
+    nearest-requires
+    overflow_cast-nearest
+    overflow_add-r
+    of_bits-requires
+    returns)

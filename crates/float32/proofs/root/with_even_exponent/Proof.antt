@@ -16,20 +16,20 @@ power q s =
     (λ (p : 0 < s % 2). let e : s % 2 ≡ 1 = omega arith in rw e (omega arith))
     (eq-zero-or-pos (s % 2))
 
-cast-result : tie.Need-overflow-cast-result
-cast-result c = search rules
+overflow_cast-result : tie.Need-overflow_cast-result
+overflow_cast-result c = search rules
 
-mul-result : tie.Need-overflow-mul-result
-mul-result c = search rules
+overflow_mul-result : tie.Need-overflow_mul-result
+overflow_mul-result c = search rules
 
-sub-result : tie.Need-overflow-sub-result
-sub-result c = search rules
+overflow_sub-result : tie.Need-overflow_sub-result
+overflow_sub-result c = search rules
 
-cast-result-2 : tie.Need-overflow-cast-result-2
-cast-result-2 c = search rules
+overflow_cast-result-2 : tie.Need-overflow_cast-result-2
+overflow_cast-result-2 c = search rules
 
-mul-result-2 : tie.Need-overflow-mul-result-2
-mul-result-2 c =
+overflow_mul-result-2 : tie.Need-overflow_mul-result-2
+overflow_mul-result-2 c =
     let f = c.before.before.args.f in
     let q : f.significand * 0x80_0000 ≤ 2 ^ 24 * 0x80_0000 = omega arith in
     record { fits = lt_of_le_of_lt (mul-le-mul q (sub-le 2 (f.exponent % 2))) (lit< tt) }
@@ -39,4 +39,10 @@ returns c = power c.before.before.args.f.significand c.before.before.args.f.expo
 
 pub with_even_exponent_spec : {M : Type 1} → statement M
 with_even_exponent_spec =
-    tie.close (tie.spec cast-result mul-result sub-result cast-result-2 mul-result-2 returns)
+    tie.close (tie.spec
+    overflow_cast-result
+    overflow_mul-result
+    overflow_sub-result
+    overflow_cast-result-2
+    overflow_mul-result-2
+    returns)
