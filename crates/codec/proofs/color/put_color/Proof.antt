@@ -5,18 +5,22 @@ use borrow.Author.Rules.{rules}
 use Rattle.codec.proofs.color.put_color.Statement.{statement}
 use Rattle.codec.proofs.color.put_color.Tie as tie
 
-color-row-requires : tie.Need-color-row-requires
-color-row-requires c κs = search rules
+color_row-requires : tie.Need-color_row-requires
+color_row-requires c κs = search rules
 
-put-row-requires : tie.Need-put-row-requires
-put-row-requires c κs = search rules
+put_row-requires : tie.Need-put_row-requires
+put_row-requires c κs = search rules
 
-same_length : tie.Need-same-length
-same_length c = search rules
+shape_of-dst : tie.Need-shape_of-dst
+shape_of-dst c = search rules
 
 returns : tie.Need-returns
 unfolding color_bytes
-returns c = rw (c.before.before.put-row.ensures, c.before.before.before.color-row.ensures)
+returns c = rw (c.before.before.put_row.ensures, c.before.before.before.color_row.ensures)
 
 pub put_color_spec : {M : Type 1} → statement M
-put_color_spec = tie.close (tie.spec color-row-requires put-row-requires same_length returns)
+put_color_spec = tie.close (tie.spec
+    color_row-requires
+    put_row-requires
+    shape_of-dst
+    returns)

@@ -15,53 +15,53 @@ use borrow.Author.Rules.{rules}
 use Rattle.codec.proofs.light.put_light.Statement.{statement}
 use Rattle.codec.proofs.light.put_light.Tie as tie
 
-put-u32-requires : tie.Need-put-u32-requires
-put-u32-requires c κs = search rules
+put_u32-requires : tie.Need-put_u32-requires
+put_u32-requires c κs = search rules
 
-add-put-color : tie.Need-overflow-add-put-color
-add-put-color c = search rules
+overflow_add-at : tie.Need-overflow_add-at
+overflow_add-at c = search rules
 
-put-color-requires : tie.Need-put-color-requires
-put-color-requires c κs = search rules
+put_color-requires : tie.Need-put_color-requires
+put_color-requires c κs = search rules
 
-add-put-color-2 : tie.Need-overflow-add-put-color-2
-add-put-color-2 c = search rules
+overflow_add-at-2 : tie.Need-overflow_add-at-2
+overflow_add-at-2 c = search rules
 
-put-color-requires-2 : tie.Need-put-color-requires-2
-put-color-requires-2 c κs = search rules
+put_color-requires-2 : tie.Need-put_color-requires-2
+put_color-requires-2 c κs = search rules
 
-add-put-color-3 : tie.Need-overflow-add-put-color-3
-add-put-color-3 c = search rules
+overflow_add-at-3 : tie.Need-overflow_add-at-3
+overflow_add-at-3 c = search rules
 
-put-color-requires-3 : tie.Need-put-color-requires-3
-put-color-requires-3 c κs = search rules
+put_color-requires-3 : tie.Need-put_color-requires-3
+put_color-requires-3 c κs = search rules
 
-add-put-vector : tie.Need-overflow-add-put-vector
-add-put-vector c = search rules
+overflow_add-at-4 : tie.Need-overflow_add-at-4
+overflow_add-at-4 c = search rules
 
-put-vector-requires : tie.Need-put-vector-requires
-put-vector-requires c κs = search rules
+put_vector-requires : tie.Need-put_vector-requires
+put_vector-requires c κs = search rules
 
-add-put-vector-2 : tie.Need-overflow-add-put-vector-2
-add-put-vector-2 c = search rules
+overflow_add-at-5 : tie.Need-overflow_add-at-5
+overflow_add-at-5 c = search rules
 
-put-vector-requires-2 : tie.Need-put-vector-requires-2
-put-vector-requires-2 c κs = search rules
+put_vector-requires-2 : tie.Need-put_vector-requires-2
+put_vector-requires-2 c κs = search rules
 
-add-put-row : tie.Need-overflow-add-put-row
-add-put-row c = search rules
+overflow_add-at-6 : tie.Need-overflow_add-at-6
+overflow_add-at-6 c = search rules
 
-put-row-requires : tie.Need-put-row-requires
-put-row-requires c κs = search rules
+put_row-requires : tie.Need-put_row-requires
+put_row-requires c κs = search rules
 
-add-put-vector-3 : tie.Need-overflow-add-put-vector-3
-add-put-vector-3 c = search rules
+overflow_add-at-7 : tie.Need-overflow_add-at-7
+overflow_add-at-7 c = search rules
 
-put-vector-requires-3 : tie.Need-put-vector-requires-3
-put-vector-requires-3 c κs = search rules
+put_vector-requires-3 : tie.Need-put_vector-requires-3
+put_vector-requires-3 c κs = search rules
 
-same_length : tie.Need-same-length
-same_length c = search rules
+shape_of-dst : tie.Need-shape_of-dst
+shape_of-dst c = search rules
 
 returns : tie.Need-returns
 unfolding flatten light_bytes color_bytes row_bytes vector_bytes float_bytes little_bytes
@@ -78,27 +78,27 @@ returns c =
     let v = a.args.l in
     let first : Row = record { x = v.range; y = v.falloff; z = v.attenuation0; w = v.attenuation1 } in
     let last : D3DVECTOR = record { x = v.attenuation2; y = v.theta; z = v.phi } in
-    rw (c₈.put-vector3.ensures, c₇.put-row.ensures, c₆.put-vector2.ensures, c₅.put_vector.ensures, c₄.put-color3.ensures, c₃.put-color2.ensures, c₂.put-color.ensures, c₁.put-u32.ensures)
+    rw (c₈.put_vector-3.ensures, c₇.put_row.ensures, c₆.put_vector-2.ensures, c₅.put_vector.ensures, c₄.put_color-3.ensures, c₃.put_color-2.ensures, c₂.put_color.ensures, c₁.put_u32.ensures)
     (puts_are a.args.at 4 (little_bytes 4 v.type_) (color_bytes v.diffuse ∷ color_bytes v.specular ∷ color_bytes v.ambient ∷ vector_bytes v.position ∷ vector_bytes v.direction ∷ row_bytes first ∷ vector_bytes last ∷ []) a.args.dst.now refl a.requires)
 
 pub put_light_spec : {M : Type 1} → statement M
 put_light_spec =
     tie.close
     (tie.spec
-    put-u32-requires
-    add-put-color
-    put-color-requires
-    add-put-color-2
-    put-color-requires-2
-    add-put-color-3
-    put-color-requires-3
-    add-put-vector
-    put-vector-requires
-    add-put-vector-2
-    put-vector-requires-2
-    add-put-row
-    put-row-requires
-    add-put-vector-3
-    put-vector-requires-3
-    same_length
+    put_u32-requires
+    overflow_add-at
+    put_color-requires
+    overflow_add-at-2
+    put_color-requires-2
+    overflow_add-at-3
+    put_color-requires-3
+    overflow_add-at-4
+    put_vector-requires
+    overflow_add-at-5
+    put_vector-requires-2
+    overflow_add-at-6
+    put_row-requires
+    overflow_add-at-7
+    put_vector-requires-3
+    shape_of-dst
     returns)

@@ -6,14 +6,17 @@ use borrow.Author.Rules.{rules}
 use Rattle.codec.proofs.little.byte_at.Statement.{statement}
 use Rattle.codec.proofs.little.byte_at.Tie as tie
 
-shared-slice-read-result : tie.Need-shared-slice-read-result
-shared-slice-read-result c = search rules
+bounds-s-i : tie.Need-bounds-s-i
+bounds-s-i c = search rules
 
-cast-result : tie.Need-overflow-cast-result
-cast-result c = omega (arith, c.shared-slice-known.given c.before.args.i)
+overflow_cast-result : tie.Need-overflow_cast-result
+overflow_cast-result c = omega (arith, c.shared_slice_known-1.given c.before.args.i)
 
 returns : tie.Need-returns
-returns c = (refl, omega (arith, c.shared-slice-known.given c.before.args.i))
+returns c = (refl, omega (arith, c.shared_slice_known-1.given c.before.args.i))
 
 pub byte_at_spec : {M : Type 1} → statement M
-byte_at_spec = tie.close (tie.spec shared-slice-read-result cast-result returns)
+byte_at_spec = tie.close (tie.spec
+    bounds-s-i
+    overflow_cast-result
+    returns)

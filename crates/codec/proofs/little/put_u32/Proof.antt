@@ -8,41 +8,41 @@ use borrow.Author.Rules.{rules}
 use Rattle.codec.proofs.little.put_u32.Statement.{statement}
 use Rattle.codec.proofs.little.put_u32.Tie as tie
 
-cast-dst : tie.Need-overflow-cast-dst
-cast-dst c = search rules
+overflow_cast-dst : tie.Need-overflow_cast-dst
+overflow_cast-dst c = search rules
 
-slice-write-dst : tie.Need-slice-write-dst
-slice-write-dst c = search rules
+bounds-dst-at : tie.Need-bounds-dst-at
+bounds-dst-at c = search rules
 
-cast-dst-2 : tie.Need-overflow-cast-dst-2
-cast-dst-2 c = search rules
+overflow_cast-dst-2 : tie.Need-overflow_cast-dst-2
+overflow_cast-dst-2 c = search rules
 
-add-dst : tie.Need-overflow-add-dst
-add-dst c = search rules
+overflow_add-dst : tie.Need-overflow_add-dst
+overflow_add-dst c = search rules
 
-slice-write-dst-2 : tie.Need-slice-write-dst-2
-slice-write-dst-2 c = simp length-set (omega arith)
+bounds-dst-at-2 : tie.Need-bounds-dst-at-2
+bounds-dst-at-2 c = simp length-set (omega arith)
 
-cast-dst-3 : tie.Need-overflow-cast-dst-3
-cast-dst-3 c = search rules
+overflow_cast-dst-3 : tie.Need-overflow_cast-dst-3
+overflow_cast-dst-3 c = search rules
 
-add-dst-2 : tie.Need-overflow-add-dst-2
-add-dst-2 c = search rules
+overflow_add-dst-2 : tie.Need-overflow_add-dst-2
+overflow_add-dst-2 c = search rules
 
-slice-write-dst-3 : tie.Need-slice-write-dst-3
-slice-write-dst-3 c = simp length-set (omega arith)
+bounds-dst-at-3 : tie.Need-bounds-dst-at-3
+bounds-dst-at-3 c = simp length-set (omega arith)
 
-cast-dst-4 : tie.Need-overflow-cast-dst-4
-cast-dst-4 c = search rules
+overflow_cast-dst-4 : tie.Need-overflow_cast-dst-4
+overflow_cast-dst-4 c = search rules
 
-add-dst-3 : tie.Need-overflow-add-dst-3
-add-dst-3 c = search rules
+overflow_add-dst-3 : tie.Need-overflow_add-dst-3
+overflow_add-dst-3 c = search rules
 
-slice-write-dst-4 : tie.Need-slice-write-dst-4
-slice-write-dst-4 c = simp length-set (omega arith)
+bounds-dst-at-4 : tie.Need-bounds-dst-at-4
+bounds-dst-at-4 c = simp length-set (omega arith)
 
-same_length : tie.Need-same-length
-same_length c = search rules
+shape_of-dst : tie.Need-shape_of-dst
+shape_of-dst c = search rules
 
 returns : tie.Need-returns
 unfolding little_bytes
@@ -52,16 +52,16 @@ pub put_u32_spec : {M : Type 1} → statement M
 put_u32_spec =
     tie.close
     (tie.spec
-    cast-dst
-    slice-write-dst
-    cast-dst-2
-    add-dst
-    slice-write-dst-2
-    cast-dst-3
-    add-dst-2
-    slice-write-dst-3
-    cast-dst-4
-    add-dst-3
-    slice-write-dst-4
-    same_length
+    overflow_cast-dst
+    bounds-dst-at
+    overflow_cast-dst-2
+    overflow_add-dst
+    bounds-dst-at-2
+    overflow_cast-dst-3
+    overflow_add-dst-2
+    bounds-dst-at-3
+    overflow_cast-dst-4
+    overflow_add-dst-3
+    bounds-dst-at-4
+    shape_of-dst
     returns)

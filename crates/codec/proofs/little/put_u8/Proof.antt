@@ -9,11 +9,11 @@ use borrow.Author.Rules.{rules}
 use Rattle.codec.proofs.little.put_u8.Statement.{statement}
 use Rattle.codec.proofs.little.put_u8.Tie as tie
 
-slice-write-dst : tie.Need-slice-write-dst
-slice-write-dst c = search rules
+bounds-dst-at : tie.Need-bounds-dst-at
+bounds-dst-at c = search rules
 
-same_length : tie.Need-same-length
-same_length c = search rules
+shape_of-dst : tie.Need-shape_of-dst
+shape_of-dst c = search rules
 
 returns : tie.Need-returns
 unfolding little_bytes
@@ -22,4 +22,7 @@ returns c =
     rw small (one_store c.args.at c.args.dst.now c.args.n c.requires)
 
 pub put_u8_spec : {M : Type 1} → statement M
-put_u8_spec = tie.close (tie.spec slice-write-dst same_length returns)
+put_u8_spec = tie.close (tie.spec
+    bounds-dst-at
+    shape_of-dst
+    returns)

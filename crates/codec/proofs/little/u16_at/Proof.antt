@@ -10,32 +10,32 @@ use borrow.Author.Rules.{rules}
 use Rattle.codec.proofs.little.u16_at.Statement.{statement}
 use Rattle.codec.proofs.little.u16_at.Tie as tie
 
-add-t : tie.Need-overflow-add-t
-add-t c = search rules
+overflow_add-t : tie.Need-overflow_add-t
+overflow_add-t c = search rules
 
-sub-t : tie.Need-overflow-sub-t
-sub-t c = search rules
+slice_bounds-t-count : tie.Need-slice_bounds-t-count
+slice_bounds-t-count c = search rules
 
-part-t-start : tie.Need-slice-bounds-t-start
-part-t-start c = search rules
+slice_bounds-t-start : tie.Need-slice_bounds-t-start
+slice_bounds-t-start c = search rules
 
-part-t-end : tie.Need-slice-bounds-t-end
-part-t-end c = search rules
+slice_bounds-t-end : tie.Need-slice_bounds-t-end
+slice_bounds-t-end c = search rules
 
-byte-at-requires : tie.Need-byte-at-requires
-byte-at-requires c κs = search rules
+byte_at-requires : tie.Need-byte_at-requires
+byte_at-requires c κs = search rules
 
-byte-at-requires-2 : tie.Need-byte-at-requires-2
-byte-at-requires-2 c κs = search rules
+byte_at-requires-2 : tie.Need-byte_at-requires-2
+byte_at-requires-2 c κs = search rules
 
-mul-result : tie.Need-overflow-mul-result
-mul-result c = search rules
+overflow_mul-result : tie.Need-overflow_mul-result
+overflow_mul-result c = search rules
 
-add-result : tie.Need-overflow-add-result
-add-result c = search rules
+overflow_add-result : tie.Need-overflow_add-result
+overflow_add-result c = search rules
 
-cast-result : tie.Need-overflow-cast-result
-cast-result c = search rules
+overflow_cast-result : tie.Need-overflow_cast-result
+overflow_cast-result c = search rules
 
 returns : tie.Need-returns
 returns c =
@@ -45,20 +45,20 @@ returns c =
     let s = start.args.s.now in
     let two : at + 2 - at ≡ 2 = omega arith in
     let room : 2 ≤ length (drop at s) = rw length-drop (omega arith) in
-    rw (b.byte_at.ensures.0, c.byte-at2.ensures.0, two)
+    rw (b.byte_at.ensures.0, c.byte_at-2.ensures.0, two)
     (number_of_two (take 2 (drop at s)) (length-take-le 2 (drop at s) room))
 
 pub u16_at_spec : {M : Type 1} → statement M
 u16_at_spec =
     tie.close
     (tie.spec
-    add-t
-    sub-t
-    part-t-start
-    part-t-end
-    byte-at-requires
-    byte-at-requires-2
-    mul-result
-    add-result
-    cast-result
+    overflow_add-t
+    slice_bounds-t-count
+    slice_bounds-t-start
+    slice_bounds-t-end
+    byte_at-requires
+    byte_at-requires-2
+    overflow_mul-result
+    overflow_add-result
+    overflow_cast-result
     returns)

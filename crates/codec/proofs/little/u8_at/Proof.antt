@@ -11,8 +11,8 @@ use borrow.Author.Rules.{rules}
 use Rattle.codec.proofs.little.u8_at.Statement.{statement}
 use Rattle.codec.proofs.little.u8_at.Tie as tie
 
-shared-slice-read-result : tie.Need-shared-slice-read-result
-shared-slice-read-result c = search rules
+bounds-s-at : tie.Need-bounds-s-at
+bounds-s-at c = search rules
 
 returns : tie.Need-returns
 returns c =
@@ -24,4 +24,6 @@ returns c =
     sym here ∙ number_of_one (take 1 (drop at s)) (length-take-le 1 (drop at s) room)
 
 pub u8_at_spec : {M : Type 1} → statement M
-u8_at_spec = tie.close (tie.spec shared-slice-read-result returns)
+u8_at_spec = tie.close (tie.spec
+    bounds-s-at
+    returns)

@@ -12,35 +12,35 @@ use borrow.Author.Rules.{rules}
 use Rattle.codec.proofs.material.put_material.Statement.{statement}
 use Rattle.codec.proofs.material.put_material.Tie as tie
 
-put-color-requires : tie.Need-put-color-requires
-put-color-requires c κs = search rules
+put_color-requires : tie.Need-put_color-requires
+put_color-requires c κs = search rules
 
-add-put-color : tie.Need-overflow-add-put-color
-add-put-color c = search rules
+overflow_add-at : tie.Need-overflow_add-at
+overflow_add-at c = search rules
 
-put-color-requires-2 : tie.Need-put-color-requires-2
-put-color-requires-2 c κs = search rules
+put_color-requires-2 : tie.Need-put_color-requires-2
+put_color-requires-2 c κs = search rules
 
-add-put-color-2 : tie.Need-overflow-add-put-color-2
-add-put-color-2 c = search rules
+overflow_add-at-2 : tie.Need-overflow_add-at-2
+overflow_add-at-2 c = search rules
 
-put-color-requires-3 : tie.Need-put-color-requires-3
-put-color-requires-3 c κs = search rules
+put_color-requires-3 : tie.Need-put_color-requires-3
+put_color-requires-3 c κs = search rules
 
-add-put-color-3 : tie.Need-overflow-add-put-color-3
-add-put-color-3 c = search rules
+overflow_add-at-3 : tie.Need-overflow_add-at-3
+overflow_add-at-3 c = search rules
 
-put-color-requires-4 : tie.Need-put-color-requires-4
-put-color-requires-4 c κs = search rules
+put_color-requires-4 : tie.Need-put_color-requires-4
+put_color-requires-4 c κs = search rules
 
-add-put-f32 : tie.Need-overflow-add-put-f32
-add-put-f32 c = search rules
+overflow_add-at-4 : tie.Need-overflow_add-at-4
+overflow_add-at-4 c = search rules
 
-put-f32-requires : tie.Need-put-f32-requires
-put-f32-requires c κs = search rules
+put_f32-requires : tie.Need-put_f32-requires
+put_f32-requires c κs = search rules
 
-same_length : tie.Need-same-length
-same_length c = search rules
+shape_of-dst : tie.Need-shape_of-dst
+shape_of-dst c = search rules
 
 returns : tie.Need-returns
 unfolding flatten material_bytes color_bytes row_bytes float_bytes little_bytes
@@ -52,21 +52,21 @@ returns c =
     let c₁ = c₂.before.before.before.before in
     let a = c₁.before.before.before in
     let v = a.args.m in
-    rw (c₅.put-f32.ensures, c₄.put-color4.ensures, c₃.put-color3.ensures, c₂.put-color2.ensures, c₁.put-color.ensures)
+    rw (c₅.put_f32.ensures, c₄.put_color-4.ensures, c₃.put_color-3.ensures, c₂.put_color-2.ensures, c₁.put_color.ensures)
     (puts_are a.args.at 16 (color_bytes v.diffuse) (color_bytes v.ambient ∷ color_bytes v.specular ∷ color_bytes v.emissive ∷ float_bytes v.power ∷ []) a.args.dst.now refl a.requires)
 
 pub put_material_spec : {M : Type 1} → statement M
 put_material_spec =
     tie.close
     (tie.spec
-    put-color-requires
-    add-put-color
-    put-color-requires-2
-    add-put-color-2
-    put-color-requires-3
-    add-put-color-3
-    put-color-requires-4
-    add-put-f32
-    put-f32-requires
-    same_length
+    put_color-requires
+    overflow_add-at
+    put_color-requires-2
+    overflow_add-at-2
+    put_color-requires-3
+    overflow_add-at-3
+    put_color-requires-4
+    overflow_add-at-4
+    put_f32-requires
+    shape_of-dst
     returns)

@@ -5,42 +5,42 @@ use borrow.Author.Rules.{rules}
 use Rattle.codec.proofs.matrix.matrix_at.Statement.{statement}
 use Rattle.codec.proofs.matrix.matrix_at.Tie as tie
 
-row-at-requires : tie.Need-row-at-requires
-row-at-requires c κs = search rules
+row_at-requires : tie.Need-row_at-requires
+row_at-requires c κs = search rules
 
-add-row-at : tie.Need-overflow-add-row-at
-add-row-at c = search rules
+overflow_add-at : tie.Need-overflow_add-at
+overflow_add-at c = search rules
 
-row-at-requires-2 : tie.Need-row-at-requires-2
-row-at-requires-2 c κs = search rules
+row_at-requires-2 : tie.Need-row_at-requires-2
+row_at-requires-2 c κs = search rules
 
-add-row-at-2 : tie.Need-overflow-add-row-at-2
-add-row-at-2 c = search rules
+overflow_add-at-2 : tie.Need-overflow_add-at-2
+overflow_add-at-2 c = search rules
 
-row-at-requires-3 : tie.Need-row-at-requires-3
-row-at-requires-3 c κs = search rules
+row_at-requires-3 : tie.Need-row_at-requires-3
+row_at-requires-3 c κs = search rules
 
-add-row-at-3 : tie.Need-overflow-add-row-at-3
-add-row-at-3 c = search rules
+overflow_add-at-3 : tie.Need-overflow_add-at-3
+overflow_add-at-3 c = search rules
 
-row-at-requires-4 : tie.Need-row-at-requires-4
-row-at-requires-4 c κs = search rules
+row_at-requires-4 : tie.Need-row_at-requires-4
+row_at-requires-4 c κs = search rules
 
 returns : tie.Need-returns
 unfolding matrix_at
 returns c =
     rw
-    (c.before.before.before.row_at.ensures, c.before.before.row-at2.ensures, c.before.row-at3.ensures, c.row-at4.ensures)
+    (c.before.before.before.row_at.ensures, c.before.before.row_at-2.ensures, c.before.row_at-3.ensures, c.row_at-4.ensures)
 
 pub matrix_at_spec : {M : Type 1} → statement M
 matrix_at_spec =
     tie.close
     (tie.spec
-    row-at-requires
-    add-row-at
-    row-at-requires-2
-    add-row-at-2
-    row-at-requires-3
-    add-row-at-3
-    row-at-requires-4
+    row_at-requires
+    overflow_add-at
+    row_at-requires-2
+    overflow_add-at-2
+    row_at-requires-3
+    overflow_add-at-3
+    row_at-requires-4
     returns)

@@ -5,42 +5,42 @@ use borrow.Author.Rules.{rules}
 use Rattle.codec.proofs.matrix.row_at.Statement.{statement}
 use Rattle.codec.proofs.matrix.row_at.Tie as tie
 
-f32-at-requires : tie.Need-f32-at-requires
-f32-at-requires c κs = search rules
+f32_at-requires : tie.Need-f32_at-requires
+f32_at-requires c κs = search rules
 
-add-f32-at : tie.Need-overflow-add-f32-at
-add-f32-at c = search rules
+overflow_add-at : tie.Need-overflow_add-at
+overflow_add-at c = search rules
 
-f32-at-requires-2 : tie.Need-f32-at-requires-2
-f32-at-requires-2 c κs = search rules
+f32_at-requires-2 : tie.Need-f32_at-requires-2
+f32_at-requires-2 c κs = search rules
 
-add-f32-at-2 : tie.Need-overflow-add-f32-at-2
-add-f32-at-2 c = search rules
+overflow_add-at-2 : tie.Need-overflow_add-at-2
+overflow_add-at-2 c = search rules
 
-f32-at-requires-3 : tie.Need-f32-at-requires-3
-f32-at-requires-3 c κs = search rules
+f32_at-requires-3 : tie.Need-f32_at-requires-3
+f32_at-requires-3 c κs = search rules
 
-add-f32-at-3 : tie.Need-overflow-add-f32-at-3
-add-f32-at-3 c = search rules
+overflow_add-at-3 : tie.Need-overflow_add-at-3
+overflow_add-at-3 c = search rules
 
-f32-at-requires-4 : tie.Need-f32-at-requires-4
-f32-at-requires-4 c κs = search rules
+f32_at-requires-4 : tie.Need-f32_at-requires-4
+f32_at-requires-4 c κs = search rules
 
 returns : tie.Need-returns
 unfolding row_at
 returns c =
     rw
-    (c.before.before.before.f32-at.ensures, c.before.before.f32-at2.ensures, c.before.f32-at3.ensures, c.f32-at4.ensures)
+    (c.before.before.before.f32_at.ensures, c.before.before.f32_at-2.ensures, c.before.f32_at-3.ensures, c.f32_at-4.ensures)
 
 pub row_at_spec : {M : Type 1} → statement M
 row_at_spec =
     tie.close
     (tie.spec
-    f32-at-requires
-    add-f32-at
-    f32-at-requires-2
-    add-f32-at-2
-    f32-at-requires-3
-    add-f32-at-3
-    f32-at-requires-4
+    f32_at-requires
+    overflow_add-at
+    f32_at-requires-2
+    overflow_add-at-2
+    f32_at-requires-3
+    overflow_add-at-3
+    f32_at-requires-4
     returns)

@@ -5,32 +5,40 @@ use borrow.Author.Rules.{rules}
 use Rattle.codec.proofs.render_states.states_at.Statement.{statement}
 use Rattle.codec.proofs.render_states.states_at.Tie as tie
 
-f32-at-requires : tie.Need-f32-at-requires
-f32-at-requires c κs = search rules
+f32_at-requires : tie.Need-f32_at-requires
+f32_at-requires c κs = search rules
 
-add-f32-at : tie.Need-overflow-add-f32-at
-add-f32-at c = search rules
+overflow_add-at : tie.Need-overflow_add-at
+overflow_add-at c = search rules
 
-f32-at-requires-2 : tie.Need-f32-at-requires-2
-f32-at-requires-2 c κs = search rules
+f32_at-requires-2 : tie.Need-f32_at-requires-2
+f32_at-requires-2 c κs = search rules
 
-add-f32-at-2 : tie.Need-overflow-add-f32-at-2
-add-f32-at-2 c = search rules
+overflow_add-at-2 : tie.Need-overflow_add-at-2
+overflow_add-at-2 c = search rules
 
-f32-at-requires-3 : tie.Need-f32-at-requires-3
-f32-at-requires-3 c κs = search rules
+f32_at-requires-3 : tie.Need-f32_at-requires-3
+f32_at-requires-3 c κs = search rules
 
-add-u32-at : tie.Need-overflow-add-u32-at
-add-u32-at c = search rules
+overflow_add-at-3 : tie.Need-overflow_add-at-3
+overflow_add-at-3 c = search rules
 
-u32-at-requires : tie.Need-u32-at-requires
-u32-at-requires c κs = search rules
+u32_at-requires : tie.Need-u32_at-requires
+u32_at-requires c κs = search rules
 
 returns : tie.Need-returns
 unfolding states_at
-returns c = rw (c.before.before.before.f32-at.ensures, c.before.before.f32-at2.ensures, c.before.f32-at3.ensures, c.u32-at.ensures)
+returns c = rw (c.before.before.before.f32_at.ensures, c.before.before.f32_at-2.ensures, c.before.f32_at-3.ensures, c.u32_at.ensures)
 
 pub states_at_spec : {M : Type 1} → statement M
 states_at_spec =
     tie.close
-    (tie.spec f32-at-requires add-f32-at f32-at-requires-2 add-f32-at-2 f32-at-requires-3 add-u32-at u32-at-requires returns)
+    (tie.spec
+    f32_at-requires
+    overflow_add-at
+    f32_at-requires-2
+    overflow_add-at-2
+    f32_at-requires-3
+    overflow_add-at-3
+    u32_at-requires
+    returns)

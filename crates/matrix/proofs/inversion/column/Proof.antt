@@ -23,8 +23,13 @@ returns c =
     let at-sum32 = c.before.before.before.before.before in
     let at-sum3 = c.before.before.before.before.before.before.before.before in
     rw
-    (at-sum3.sum3.ensures, at-sum32.sum32.ensures, c.before.before.before.sum33.ensures, c.sum34.ensures)
+    (at-sum3.sum3.ensures, at-sum32.sum3-2.ensures, c.before.before.before.sum3-3.ensures, c.sum3-4.ensures)
 
 pub column_spec : {M : Type 1} → statement M
 column_spec =
-    tie.close (tie.spec sum3-requires sum3-requires-2 sum3-requires-3 sum3-requires-4 returns)
+    tie.close (tie.spec
+    sum3-requires
+    sum3-requires-2
+    sum3-requires-3
+    sum3-requires-4
+    returns)

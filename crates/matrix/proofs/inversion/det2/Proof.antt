@@ -10,4 +10,5 @@ unfolding det2
 returns c = refl
 
 pub det2_spec : {M : Type 1} → statement M
-det2_spec = tie.close (tie.spec returns)
+det2_spec = tie.close (tie.spec
+    returns)

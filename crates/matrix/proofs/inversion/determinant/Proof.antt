@@ -13,7 +13,10 @@ sum3-requires-2 c κs = search rules
 
 returns : tie.Need-returns
 unfolding determinant_of
-returns c = rw (c.before.before.sum3.ensures, c.sum32.ensures)
+returns c = rw (c.before.before.sum3.ensures, c.sum3-2.ensures)
 
 pub determinant_spec : {M : Type 1} → statement M
-determinant_spec = tie.close (tie.spec sum3-requires sum3-requires-2 returns)
+determinant_spec = tie.close (tie.spec
+    sum3-requires
+    sum3-requires-2
+    returns)

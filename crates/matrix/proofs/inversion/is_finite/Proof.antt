@@ -21,13 +21,15 @@ not_below nan e = refl
 not_below (inf s) e = refl
 not_below (fin s m n) e = absurd (subst T e tt)
 
-returns : tie.Need-returns
+returns-then-x-infinity : tie.Need-returns-then-x-infinity
 unfolding of_bits div neg
-returns c = below_infinity c.before.args.x c.if1.true
+returns-then-x-infinity c = below_infinity c.before.args.x c.if-x-infinity.true
 
-returns-2 : tie.Need-returns-2
+returns : tie.Need-returns
 unfolding of_bits div
-returns-2 c = not_below c.before.args.x c.if1.false
+returns c = not_below c.before.args.x c.if-x-infinity.false
 
 pub is_finite_spec : {M : Type 1} → statement M
-is_finite_spec = tie.close (tie.spec returns returns-2)
+is_finite_spec = tie.close (tie.spec
+    returns-then-x-infinity
+    returns)

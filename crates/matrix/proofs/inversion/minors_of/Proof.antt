@@ -28,7 +28,7 @@ unfolding minors_of
 returns c =
     let at-det2 = c.before.before.before.before.before in
     rw
-    (at-det2.det2.ensures, c.before.before.before.before.det22.ensures, c.before.before.before.det23.ensures, c.before.before.det24.ensures, c.before.det25.ensures, c.det26.ensures)
+    (at-det2.det2.ensures, c.before.before.before.before.det2-2.ensures, c.before.before.before.det2-3.ensures, c.before.before.det2-4.ensures, c.before.det2-5.ensures, c.det2-6.ensures)
 
 pub minors_of_spec : {M : Type 1} → statement M
 minors_of_spec =

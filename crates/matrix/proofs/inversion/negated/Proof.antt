@@ -10,4 +10,5 @@ unfolding negated_row
 returns c = refl
 
 pub negated_spec : {M : Type 1} → statement M
-negated_spec = tie.close (tie.spec returns)
+negated_spec = tie.close (tie.spec
+    returns)

@@ -10,4 +10,5 @@ unfolding sum3
 returns c = refl
 
 pub sum3_spec : {M : Type 1} → statement M
-sum3_spec = tie.close (tie.spec returns)
+sum3_spec = tie.close (tie.spec
+    returns)

@@ -13,4 +13,5 @@ unfolding times_row dot column row sum_from of_bits neg
 returns c = refl
 
 pub times_row_spec : {M : Type 1} → statement M
-times_row_spec = tie.close (tie.spec returns)
+times_row_spec = tie.close (tie.spec
+    returns)

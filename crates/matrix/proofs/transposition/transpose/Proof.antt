@@ -11,4 +11,5 @@ unfolding transposed column row
 returns c = refl
 
 pub transpose_spec : {M : Type 1} → statement M
-transpose_spec = tie.close (tie.spec returns)
+transpose_spec = tie.close (tie.spec
+    returns)

@@ -13,4 +13,5 @@ unfolding view_transform_dir column row sum_from of_bits neg
 returns c = refl
 
 pub view_transform_dir_spec : {M : Type 1} → statement M
-view_transform_dir_spec = tie.close (tie.spec returns)
+view_transform_dir_spec = tie.close (tie.spec
+    returns)

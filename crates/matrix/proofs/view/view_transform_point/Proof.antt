@@ -13,4 +13,5 @@ unfolding view_transform_point column row sum_from of_bits neg
 returns c = refl
 
 pub view_transform_point_spec : {M : Type 1} → statement M
-view_transform_point_spec = tie.close (tie.spec returns)
+view_transform_point_spec = tie.close (tie.spec
+    returns)

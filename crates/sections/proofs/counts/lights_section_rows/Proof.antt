@@ -12,12 +12,15 @@ use Rattle.sections.proofs.counts.lights_section_rows.Tie as tie
 places-requires : tie.Need-places-requires
 places-requires c κs = search rules
 
-mul-result : tie.Need-overflow-mul-result
-mul-result c = omega (arith, c.places.ensures, places_most c.before.args.key.light_active_mask)
+overflow_mul-result : tie.Need-overflow_mul-result
+overflow_mul-result c = omega (arith, c.places.ensures, places_most c.before.args.key.light_active_mask)
 
 returns : tie.Need-returns
 unfolding light_count
 returns c = ap (λ n. n * 6) c.places.ensures
 
 pub lights_section_rows_spec : {M : Type 1} → statement M
-lights_section_rows_spec = tie.close (tie.spec places-requires mul-result returns)
+lights_section_rows_spec = tie.close (tie.spec
+    places-requires
+    overflow_mul-result
+    returns)

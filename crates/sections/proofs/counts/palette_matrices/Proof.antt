@@ -6,20 +6,24 @@ use borrow.Author.Rules.{rules}
 use Rattle.sections.proofs.counts.palette_matrices.Statement.{statement}
 use Rattle.sections.proofs.counts.palette_matrices.Tie as tie
 
-cast-count : tie.Need-overflow-cast-count
-cast-count c = search rules
+overflow_cast-count : tie.Need-overflow_cast-count
+overflow_cast-count c = search rules
+
+returns-then-count-eq0 : tie.Need-returns-then-count-eq0
+unfolding palette_matrices
+returns-then-count-eq0 c = rw (eq-eqb _ 0 c.if-count-eq0.true)
+
+returns-then-key : tie.Need-returns-then-key
+unfolding palette_matrices
+returns-then-key c = rw (ne_eqb _ 0 c.before.if-count-eq0.false, c.if-key.true)
 
 returns : tie.Need-returns
 unfolding palette_matrices
-returns c = rw (eq-eqb _ 0 c.if1.true)
-
-returns-2 : tie.Need-returns-2
-unfolding palette_matrices
-returns-2 c = rw (ne_eqb _ 0 c.before.if1.false, c.if2.true)
-
-returns-3 : tie.Need-returns-3
-unfolding palette_matrices
-returns-3 c = rw (ne_eqb _ 0 c.before.if1.false, c.if2.false)
+returns c = rw (ne_eqb _ 0 c.before.if-count-eq0.false, c.if-key.false)
 
 pub palette_matrices_spec : {M : Type 1} → statement M
-palette_matrices_spec = tie.close (tie.spec cast-count returns returns-2 returns-3)
+palette_matrices_spec = tie.close (tie.spec
+    overflow_cast-count
+    returns-then-count-eq0
+    returns-then-key
+    returns)

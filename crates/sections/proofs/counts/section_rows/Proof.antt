@@ -13,103 +13,103 @@ use Rattle.sections.proofs.counts.section_rows.Tie as tie
 line : {σ τ : Section} (k : FfVsKey) (t : ℕ) {n : ℕ} → σ ≡ τ → n ≡ section_rows τ k t → n ≡ section_rows σ k t
 line k t e q = q ∙ ap (λ (x : Section). section_rows x k t) (sym e)
 
-enum_told : tie.Need-enum-told
-enum_told c = search rules
+enum_told-1 : tie.Need-enum_told-1
+enum_told-1 c = search rules
 
-wv-section-rows-requires : tie.Need-wv-section-rows-requires
-wv-section-rows-requires c κs = search rules
+wv_section_rows-requires : tie.Need-wv_section_rows-requires
+wv_section_rows-requires c κs = search rules
 
-enum-told-2 : tie.Need-enum-told-2
-enum-told-2 c = search rules
+enum_told-in-Proj : tie.Need-enum_told-in-Proj
+enum_told-in-Proj c = search rules
 
-proj-section-rows-requires : tie.Need-proj-section-rows-requires
-proj-section-rows-requires c κs = search rules
+proj_section_rows-requires : tie.Need-proj_section_rows-requires
+proj_section_rows-requires c κs = search rules
 
-enum-told-3 : tie.Need-enum-told-3
-enum-told-3 c = search rules
+enum_told-in-Material : tie.Need-enum_told-in-Material
+enum_told-in-Material c = search rules
 
-material-section-rows-requires : tie.Need-material-section-rows-requires
-material-section-rows-requires c κs = search rules
+material_section_rows-requires : tie.Need-material_section_rows-requires
+material_section_rows-requires c κs = search rules
 
-enum-told-4 : tie.Need-enum-told-4
-enum-told-4 c = search rules
+enum_told-in-Lights : tie.Need-enum_told-in-Lights
+enum_told-in-Lights c = search rules
 
-lights-section-rows-requires : tie.Need-lights-section-rows-requires
-lights-section-rows-requires c κs = search rules
+lights_section_rows-requires : tie.Need-lights_section_rows-requires
+lights_section_rows-requires c κs = search rules
 
-enum-told-5 : tie.Need-enum-told-5
-enum-told-5 c = search rules
+enum_told-in-Palette : tie.Need-enum_told-in-Palette
+enum_told-in-Palette c = search rules
 
-palette-section-rows-requires : tie.Need-palette-section-rows-requires
-palette-section-rows-requires c κs = search rules
+palette_section_rows-requires : tie.Need-palette_section_rows-requires
+palette_section_rows-requires c κs = search rules
 
-enum-told-6 : tie.Need-enum-told-6
-enum-told-6 c = search rules
+enum_told-in-Tt : tie.Need-enum_told-in-Tt
+enum_told-in-Tt c = search rules
 
-tt-section-rows-requires : tie.Need-tt-section-rows-requires
-tt-section-rows-requires c κs = search rules
+tt_section_rows-requires : tie.Need-tt_section_rows-requires
+tt_section_rows-requires c κs = search rules
 
-enum-told-7 : tie.Need-enum-told-7
-enum-told-7 c = search rules
+enum_told-in-Fog : tie.Need-enum_told-in-Fog
+enum_told-in-Fog c = search rules
 
-fog-section-rows-requires : tie.Need-fog-section-rows-requires
-fog-section-rows-requires c κs = search rules
+fog_section_rows-requires : tie.Need-fog_section_rows-requires
+fog_section_rows-requires c κs = search rules
 
-enum-told-8 : tie.Need-enum-told-8
-enum-told-8 c = search rules
+enum_told-in-Ambient : tie.Need-enum_told-in-Ambient
+enum_told-in-Ambient c = search rules
 
-ambient-section-rows-requires : tie.Need-ambient-section-rows-requires
-ambient-section-rows-requires c κs = search rules
+ambient_section_rows-requires : tie.Need-ambient_section_rows-requires
+ambient_section_rows-requires c κs = search rules
 
-returns : tie.Need-returns
-returns c = let a = c.before.before.before.args in line a.key a.texture-mask c.before.enum_told.given.1 c.wv-section-rows.ensures
+returns-in-Wv : tie.Need-returns-in-Wv
+returns-in-Wv c = line c.args.key c.args.texture_mask c.in-Wv.is c.wv_section_rows.ensures
 
-returns-2 : tie.Need-returns-2
-returns-2 c = let a = c.before.before.before.args in line a.key a.texture-mask c.before.enum-told2.given.1 c.proj-section-rows.ensures
+returns-in-Proj : tie.Need-returns-in-Proj
+returns-in-Proj c = line c.args.key c.args.texture_mask c.in-Proj.is c.proj_section_rows.ensures
 
-returns-3 : tie.Need-returns-3
-returns-3 c = let a = c.before.before.before.args in line a.key a.texture-mask c.before.enum-told3.given.1 c.material-section-rows.ensures
+returns-in-Material : tie.Need-returns-in-Material
+returns-in-Material c = line c.args.key c.args.texture_mask c.in-Material.is c.material_section_rows.ensures
 
-returns-4 : tie.Need-returns-4
-returns-4 c = let a = c.before.before.before.args in line a.key a.texture-mask c.before.enum-told4.given.1 c.lights-section-rows.ensures
+returns-in-Lights : tie.Need-returns-in-Lights
+returns-in-Lights c = line c.args.key c.args.texture_mask c.in-Lights.is c.lights_section_rows.ensures
 
-returns-5 : tie.Need-returns-5
-returns-5 c = let a = c.before.before.before.args in line a.key a.texture-mask c.before.enum-told5.given.1 c.palette-section-rows.ensures
+returns-in-Palette : tie.Need-returns-in-Palette
+returns-in-Palette c = line c.args.key c.args.texture_mask c.in-Palette.is c.palette_section_rows.ensures
 
-returns-6 : tie.Need-returns-6
-returns-6 c = let a = c.before.before.before.args in line a.key a.texture-mask c.before.enum-told6.given.1 c.tt-section-rows.ensures
+returns-in-Tt : tie.Need-returns-in-Tt
+returns-in-Tt c = line c.args.key c.args.texture_mask c.in-Tt.is c.tt_section_rows.ensures
 
-returns-7 : tie.Need-returns-7
-returns-7 c = let a = c.before.before.before.args in line a.key a.texture-mask c.before.enum-told7.given.1 c.fog-section-rows.ensures
+returns-in-Fog : tie.Need-returns-in-Fog
+returns-in-Fog c = line c.args.key c.args.texture_mask c.in-Fog.is c.fog_section_rows.ensures
 
-returns-8 : tie.Need-returns-8
-returns-8 c = let a = c.before.before.before.args in line a.key a.texture-mask c.before.enum-told8.given.1 c.ambient-section-rows.ensures
+returns-in-Ambient : tie.Need-returns-in-Ambient
+returns-in-Ambient c = line c.args.key c.args.texture_mask c.in-Ambient.is c.ambient_section_rows.ensures
 
 pub section_rows_spec : {M : Type 1} → statement M
 section_rows_spec =
     tie.close
     (tie.spec
-    enum_told
-    wv-section-rows-requires
-    enum-told-2
-    proj-section-rows-requires
-    enum-told-3
-    material-section-rows-requires
-    enum-told-4
-    lights-section-rows-requires
-    enum-told-5
-    palette-section-rows-requires
-    enum-told-6
-    tt-section-rows-requires
-    enum-told-7
-    fog-section-rows-requires
-    enum-told-8
-    ambient-section-rows-requires
-    returns
-    returns-2
-    returns-3
-    returns-4
-    returns-5
-    returns-6
-    returns-7
-    returns-8)
+    enum_told-1
+    wv_section_rows-requires
+    enum_told-in-Proj
+    proj_section_rows-requires
+    enum_told-in-Material
+    material_section_rows-requires
+    enum_told-in-Lights
+    lights_section_rows-requires
+    enum_told-in-Palette
+    palette_section_rows-requires
+    enum_told-in-Tt
+    tt_section_rows-requires
+    enum_told-in-Fog
+    fog_section_rows-requires
+    enum_told-in-Ambient
+    ambient_section_rows-requires
+    returns-in-Wv
+    returns-in-Proj
+    returns-in-Material
+    returns-in-Lights
+    returns-in-Palette
+    returns-in-Tt
+    returns-in-Fog
+    returns-in-Ambient)

@@ -12,12 +12,15 @@ use Rattle.sections.proofs.counts.tt_section_rows.Tie as tie
 places-requires : tie.Need-places-requires
 places-requires c κs = search rules
 
-mul-result : tie.Need-overflow-mul-result
-mul-result c = omega (arith, c.places.ensures, places_most c.before.args.texture-mask)
+overflow_mul-result : tie.Need-overflow_mul-result
+overflow_mul-result c = omega (arith, c.places.ensures, places_most c.before.args.texture_mask)
 
 returns : tie.Need-returns
 unfolding texture_count
 returns c = ap (λ n. n * 4) c.places.ensures
 
 pub tt_section_rows_spec : {M : Type 1} → statement M
-tt_section_rows_spec = tie.close (tie.spec places-requires mul-result returns)
+tt_section_rows_spec = tie.close (tie.spec
+    places-requires
+    overflow_mul-result
+    returns)

@@ -4,13 +4,15 @@ use Rattle.sections.specs.Key.{limit_of}
 use Rattle.sections.proofs.key.light_limit.Statement.{statement}
 use Rattle.sections.proofs.key.light_limit.Tie as tie
 
+returns-then-key : tie.Need-returns-then-key
+unfolding limit_of
+returns-then-key c = rw c.if-key.true
+
 returns : tie.Need-returns
 unfolding limit_of
-returns c = rw c.if1.true
-
-returns-2 : tie.Need-returns-2
-unfolding limit_of
-returns-2 c = rw c.if1.false
+returns c = rw c.if-key.false
 
 pub light_limit_spec : {M : Type 1} → statement M
-light_limit_spec = tie.close (tie.spec returns returns-2)
+light_limit_spec = tie.close (tie.spec
+    returns-then-key
+    returns)

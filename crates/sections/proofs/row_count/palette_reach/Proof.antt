@@ -10,20 +10,24 @@ use borrow.Author.Rules.{rules}
 use Rattle.sections.proofs.row_count.palette_reach.Statement.{statement}
 use Rattle.sections.proofs.row_count.palette_reach.Tie as tie
 
+returns-then-key-eq0 : tie.Need-returns-then-key-eq0
+unfolding palette_reach
+returns-then-key-eq0 c = rw (eq-eqb _ 0 c.if-key-eq0.true)
+
+palette_section_rows-requires : tie.Need-palette_section_rows-requires
+palette_section_rows-requires c κs = search rules
+
+overflow_add-result : tie.Need-overflow_add-result
+overflow_add-result c = omega (arith, c.palette_section_rows.ensures, palette-most c.before.before.before.args.key (search rules))
+
 returns : tie.Need-returns
 unfolding palette_reach
-returns c = rw (eq-eqb _ 0 c.if1.true)
-
-palette-section-rows-requires : tie.Need-palette-section-rows-requires
-palette-section-rows-requires c κs = search rules
-
-add-result : tie.Need-overflow-add-result
-add-result c = omega (arith, c.palette-section-rows.ensures, palette-most c.before.before.before.args.key (search rules))
-
-returns-2 : tie.Need-returns-2
-unfolding palette_reach
-returns-2 c = rw (ne_eqb _ 0 c.before.if1.false) (ap (λ n. 95 + n) c.palette-section-rows.ensures)
+returns c = rw (ne_eqb _ 0 c.before.if-key-eq0.false) (ap (λ n. 95 + n) c.palette_section_rows.ensures)
 
 pub palette_reach_spec : {M : Type 1} → statement M
 palette_reach_spec =
-    tie.close (tie.spec returns palette-section-rows-requires add-result returns-2)
+    tie.close (tie.spec
+    returns-then-key-eq0
+    palette_section_rows-requires
+    overflow_add-result
+    returns)

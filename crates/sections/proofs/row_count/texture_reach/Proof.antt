@@ -8,19 +8,23 @@ use borrow.Author.Rules.{rules}
 use Rattle.sections.proofs.row_count.texture_reach.Statement.{statement}
 use Rattle.sections.proofs.row_count.texture_reach.Tie as tie
 
+returns-then-texture_mask-eq0 : tie.Need-returns-then-texture_mask-eq0
+unfolding texture_reach
+returns-then-texture_mask-eq0 c = rw (eq-eqb _ 0 c.if-texture_mask-eq0.true)
+
+tt_section_rows-requires : tie.Need-tt_section_rows-requires
+tt_section_rows-requires c κs = search rules
+
+overflow_add-result : tie.Need-overflow_add-result
+overflow_add-result c = omega (arith, c.tt_section_rows.ensures, texture_most c.before.before.args.texture_mask)
+
 returns : tie.Need-returns
 unfolding texture_reach
-returns c = rw (eq-eqb _ 0 c.if1.true)
-
-tt-section-rows-requires : tie.Need-tt-section-rows-requires
-tt-section-rows-requires c κs = search rules
-
-add-result : tie.Need-overflow-add-result
-add-result c = omega (arith, c.tt-section-rows.ensures, texture_most c.before.before.args.texture-mask)
-
-returns-2 : tie.Need-returns-2
-unfolding texture_reach
-returns-2 c = rw (ne_eqb _ 0 c.before.if1.false, c.tt-section-rows.ensures)
+returns c = rw (ne_eqb _ 0 c.before.if-texture_mask-eq0.false, c.tt_section_rows.ensures)
 
 pub texture_reach_spec : {M : Type 1} → statement M
-texture_reach_spec = tie.close (tie.spec returns tt-section-rows-requires add-result returns-2)
+texture_reach_spec = tie.close (tie.spec
+    returns-then-texture_mask-eq0
+    tt_section_rows-requires
+    overflow_add-result
+    returns)
