@@ -11,14 +11,14 @@ use Rattle.light_table.proofs.LowerBound.{used_most}
 use Rattle.light_table.proofs.active.active_lights.Statement.{statement}
 use Rattle.light_table.proofs.active.active_lights.Tie as tie
 
-push-slots-requires : tie.Need-push-slots-requires
-push-slots-requires c κs = search rules
+push_slots-first-requires : tie.Need-push_slots-first-requires
+push_slots-first-requires c κs = search rules
 
-used-count-requires : tie.Need-used-count-requires
-used-count-requires c κs = search rules
+used_count-used-requires : tie.Need-used_count-used-requires
+used_count-used-requires c κs = search rules
 
-push-overflow-requires : tie.Need-push-overflow-requires
-push-overflow-requires c κs = (used_most _ _ c.used-count.ensures, search rules)
+push_overflow-requires : tie.Need-push_overflow-requires
+push_overflow-requires c κs = (used_most _ _ c.used_count-used.ensures, search rules)
 
 returns : tie.Need-returns
 returns c =
@@ -26,10 +26,14 @@ returns c =
     let slots = counted.before in
     let start = slots.before in
     let a = start.args in
-    c.push-overflow.ensures
-    ∙ ap₂ (λ (l : ActiveLights) (n : ℕ). push_all a.limit l (active_overflow (take n a.entries))) slots.push-slots.ensures counted.used-count.ensures
+    c.push_overflow.ensures
+    ∙ ap₂ (λ (l : ActiveLights) (n : ℕ). push_all a.limit l (active_overflow (take n a.entries))) slots.push_slots-first.ensures counted.used_count-used.ensures
     ∙ pushed_two a.limit start.requires (active_slots a.mask a.lights) (active_overflow (take (used_count a.count) a.entries))
 
 pub active_lights_spec : {M : Type 1} → statement M
 active_lights_spec =
-    tie.close (tie.spec push-slots-requires used-count-requires push-overflow-requires returns)
+    tie.close (tie.spec
+    push_slots-first-requires
+    used_count-used-requires
+    push_overflow-requires
+    returns)

@@ -4,14 +4,17 @@ use borrow.Author.Rules.{rules}
 use Rattle.light_table.proofs.active.is_active.Statement.{statement}
 use Rattle.light_table.proofs.active.is_active.Tie as tie
 
+returns-then-e-eq0 : tie.Need-returns-then-e-eq0
+returns-then-e-eq0 c = rw (eq-eqb _ 0 c.if-e-eq0.true)
+
+light_type_contributes-requires : tie.Need-light_type_contributes-requires
+light_type_contributes-requires c κs = search rules
+
 returns : tie.Need-returns
-returns c = rw (eq-eqb _ 0 c.if1.true)
-
-light-type-contributes-requires : tie.Need-light-type-contributes-requires
-light-type-contributes-requires c κs = search rules
-
-returns-2 : tie.Need-returns-2
-returns-2 c = rw (ne_eqb _ 0 c.before.before.if1.false) c.light-type-contributes.ensures
+returns c = rw (ne_eqb _ 0 c.before.before.if-e-eq0.false) c.light_type_contributes.ensures
 
 pub is_active_spec : {M : Type 1} → statement M
-is_active_spec = tie.close (tie.spec returns light-type-contributes-requires returns-2)
+is_active_spec = tie.close (tie.spec
+    returns-then-e-eq0
+    light_type_contributes-requires
+    returns)

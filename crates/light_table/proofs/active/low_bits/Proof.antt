@@ -7,21 +7,26 @@ use borrow.Author.Rules.{rules}
 use Rattle.light_table.proofs.active.low_bits.Statement.{statement}
 use Rattle.light_table.proofs.active.low_bits.Tie as tie
 
-cast-result : tie.Need-overflow-cast-result
-cast-result c = search rules
+overflow_cast-result : tie.Need-overflow_cast-result
+overflow_cast-result c = search rules
 
-shl-result : tie.Need-overflow-shl-result
-shl-result c = search rules
+overflow_shl-result : tie.Need-overflow_shl-result
+overflow_shl-result c = search rules
 
-sub-result : tie.Need-overflow-sub-result
-sub-result c = rw (one_shl c.args.n (omega (arith, c.requires))) (pow_pos c.args.n)
+overflow_sub-result : tie.Need-overflow_sub-result
+overflow_sub-result c = rw (one_shl c.args.n (omega (arith, c.requires))) (pow_pos c.args.n)
 
-cast-result-2 : tie.Need-overflow-cast-result-2
-cast-result-2 c = rw (one_shl c.args.n (omega (arith, c.requires))) (omega (arith, pow_mono {i = c.args.n} {j = 8} c.requires))
+overflow_cast-result-2 : tie.Need-overflow_cast-result-2
+overflow_cast-result-2 c = rw (one_shl c.args.n (omega (arith, c.requires))) (omega (arith, pow_mono {i = c.args.n} {j = 8} c.requires))
 
 returns : tie.Need-returns
 unfolding low_bits
 returns c = rw (one_shl c.args.n (omega (arith, c.requires)))
 
 pub low_bits_spec : {M : Type 1} → statement M
-low_bits_spec = tie.close (tie.spec cast-result shl-result sub-result cast-result-2 returns)
+low_bits_spec = tie.close (tie.spec
+    overflow_cast-result
+    overflow_shl-result
+    overflow_sub-result
+    overflow_cast-result-2
+    returns)

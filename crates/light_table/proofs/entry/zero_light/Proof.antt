@@ -10,4 +10,5 @@ unfolding zero_light of_bits
 returns c = refl
 
 pub zero_light_spec : {M : Type 1} → statement M
-zero_light_spec = tie.close (tie.spec returns)
+zero_light_spec = tie.close (tie.spec
+    returns)

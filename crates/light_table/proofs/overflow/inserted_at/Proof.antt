@@ -13,44 +13,44 @@ use Rattle.light_table.proofs.Insertion.{set-inserted, last-twice, shifted}
 use Rattle.light_table.proofs.overflow.inserted_at.Statement.{statement}
 use Rattle.light_table.proofs.overflow.inserted_at.Tie as tie
 
-abbrev invariant-loop : tie.invariant-loop
-invariant-loop at e entries out₀ k₀ out k = (at ≤ k) × (k ≤ 55) × (length out ≡ 56) × (out ≡ inserted_at k (get_or entries k zero_entry) entries)
+abbrev invariant-loop-k : tie.invariant-loop-k
+invariant-loop-k at e entries out₀ k₀ out k = (at ≤ k) × (k ≤ 55) × (length out ≡ 56) × (out ≡ inserted_at k (get_or entries k zero_entry) entries)
 
-abbrev decreases-loop : tie.decreases-loop
-decreases-loop at e entries out₀ k₀ out k = k
+abbrev decreases-loop-k : tie.decreases-loop-k
+decreases-loop-k at e entries out₀ k₀ out k = k
 
-full : (c : tie.Start invariant-loop decreases-loop) → length c.args.t1 ≡ 56
-full c = c.well-formed.0.1.0.1
+full : (c : tie.Start invariant-loop-k decreases-loop-k) → length c.args.entries ≡ 56
+full c = c.well_formed.0.1.0.1
 
-loop-holds : tie.Need-loop-init invariant-loop decreases-loop
-loop-holds c = (omega arith, omega arith, full c, sym (last-twice c.args.t1 (full c) zero_entry))
+loop-k-init : tie.Need-loop-k-init invariant-loop-k decreases-loop-k
+loop-k-init c = (omega arith, omega arith, full c, sym (last-twice c.args.entries (full c) zero_entry))
 
-sub_out : tie.Need-overflow-sub-out invariant-loop decreases-loop
-sub_out c = omega arith
+overflow_sub-out : tie.Need-overflow_sub-out invariant-loop-k decreases-loop-k
+overflow_sub-out c = omega arith
 
-mul-out : tie.Need-overflow-mul-out invariant-loop decreases-loop
-mul-out c = omega arith
+offset_bounds-entries-k : tie.Need-offset_bounds-entries-k invariant-loop-k decreases-loop-k
+offset_bounds-entries-k c = omega arith
 
-array-copy-out-out : tie.Need-array-copy-out-out invariant-loop decreases-loop
-array-copy-out-out c = omega arith
+bounds-entries-k : tie.Need-bounds-entries-k invariant-loop-k decreases-loop-k
+bounds-entries-k c = omega arith
 
-mul-out-2 : tie.Need-overflow-mul-out-2 invariant-loop decreases-loop
-mul-out-2 c = omega arith
+offset_bounds-out-k : tie.Need-offset_bounds-out-k invariant-loop-k decreases-loop-k
+offset_bounds-out-k c = omega arith
 
-array-set-from-out : tie.Need-array-set-from-out invariant-loop decreases-loop
-array-set-from-out c = omega arith
+bounds-out-k : tie.Need-bounds-out-k invariant-loop-k decreases-loop-k
+bounds-out-k c = omega arith
 
-sub-k : tie.Need-overflow-sub-k invariant-loop decreases-loop
-sub-k c = omega arith
+overflow_sub-k : tie.Need-overflow_sub-k invariant-loop-k decreases-loop-k
+overflow_sub-k c = omega arith
 
-loop-less : tie.Need-loop-smaller invariant-loop decreases-loop
-loop-less c = omega arith
+loop-k-smaller : tie.Need-loop-k-smaller invariant-loop-k decreases-loop-k
+loop-k-smaller c = omega arith
 
-loop-again : tie.Need-loop-preserved invariant-loop decreases-loop
-loop-again c =
-    let l = c.before.before.loop in
+loop-k-preserved : tie.Need-loop-k-preserved invariant-loop-k decreases-loop-k
+loop-k-preserved c =
+    let l = c.before.before.loop-k in
     let start = c.before.before.before in
-    let es = start.args.t1 in (
+    let es = start.args.entries in (
       omega arith,
       omega arith,
       simp length-set l.invariant.2,
@@ -59,18 +59,18 @@ loop-again c =
           ∙ shifted es (full start) l.k (get_or es l.k zero_entry) zero_entry (omega arith) (omega arith),
     )
 
-mul-out-3 : tie.Need-overflow-mul-out-3 invariant-loop decreases-loop
-mul-out-3 c = omega arith
+offset_bounds-out-at : tie.Need-offset_bounds-out-at invariant-loop-k decreases-loop-k
+offset_bounds-out-at c = omega arith
 
-array-set-from-out-2 : tie.Need-array-set-from-out-2 invariant-loop decreases-loop
-array-set-from-out-2 c = omega arith
+bounds-out-at : tie.Need-bounds-out-at invariant-loop-k decreases-loop-k
+bounds-out-at c = omega arith
 
-returns : tie.Need-returns invariant-loop decreases-loop
+returns : tie.Need-returns invariant-loop-k decreases-loop-k
 returns c =
-    let l = c.before.loop in
+    let l = c.before.loop-k in
     let start = c.before.before in
     let a = start.args in
-    let es = a.t1 in
+    let es = a.entries in
     let done : l.k ≡ a.at = omega arith in
     ap (λ (o : List OverflowLight). set o a.at a.e) (l.invariant.3 ∙ ap (λ (k : ℕ). inserted_at k (get_or es k zero_entry) es) done)
     ∙ set-inserted es (full start) a.at (get_or es a.at zero_entry) a.e start.requires
@@ -79,17 +79,17 @@ pub inserted_at_spec : {M : Type 1} → statement M
 inserted_at_spec =
     tie.close
     (tie.spec
-    invariant-loop
-    decreases-loop
-    loop-holds
-    sub_out
-    mul-out
-    array-copy-out-out
-    mul-out-2
-    array-set-from-out
-    sub-k
-    loop-less
-    loop-again
-    mul-out-3
-    array-set-from-out-2
+    invariant-loop-k
+    decreases-loop-k
+    loop-k-init
+    overflow_sub-out
+    offset_bounds-entries-k
+    bounds-entries-k
+    offset_bounds-out-k
+    bounds-out-k
+    overflow_sub-k
+    loop-k-smaller
+    loop-k-preserved
+    offset_bounds-out-at
+    bounds-out-at
     returns)

@@ -10,61 +10,61 @@ use Rattle.light_table.proofs.LowerBound.{passed, stopped, exhausted}
 use Rattle.light_table.proofs.overflow.lower_bound.Statement.{statement}
 use Rattle.light_table.proofs.overflow.lower_bound.Tie as tie
 
-abbrev invariant-loop : tie.invariant-loop
-invariant-loop used index entries at₀ at = (at ≤ used) × (lower_bound (take used entries) index ≡ at + lower_bound (drop at (take used entries)) index)
+abbrev invariant-loop-at : tie.invariant-loop-at
+invariant-loop-at used index entries at₀ at = (at ≤ used) × (lower_bound (take used entries) index ≡ at + lower_bound (drop at (take used entries)) index)
 
-abbrev decreases-loop : tie.decreases-loop
-decreases-loop used index entries at₀ at = used - at
+abbrev decreases-loop-at : tie.decreases-loop-at
+decreases-loop-at used index entries at₀ at = used - at
 
-loop-holds : tie.Need-loop-init invariant-loop decreases-loop
-loop-holds c = omega arith
+loop-at-init : tie.Need-loop-at-init invariant-loop-at decreases-loop-at
+loop-at-init c = omega arith
 
-mul-if1 : tie.Need-overflow-mul-if1 invariant-loop decreases-loop
-mul-if1 c = omega arith
+offset_bounds-entries-at : tie.Need-offset_bounds-entries-at invariant-loop-at decreases-loop-at
+offset_bounds-entries-at c = omega arith
 
-element-copy-out-if1 : tie.Need-element-copy-out-if1 invariant-loop decreases-loop
-element-copy-out-if1 c = omega arith
+bounds-entries-at : tie.Need-bounds-entries-at invariant-loop-at decreases-loop-at
+bounds-entries-at c = omega arith
 
-returns : tie.Need-returns invariant-loop decreases-loop
-returns c =
-    let l = c.before.before.loop in
+returns-then-index-entries : tie.Need-returns-then-index-entries invariant-loop-at decreases-loop-at
+returns-then-index-entries c =
+    let l = c.before.before.loop-at in
     let start = c.before.before.before in
     let a = start.args in
-    omega (arith, l.invariant.1, stopped a.t1 a.used l.at a.index _ start.well-formed.0.1.0.1 start.requires c.before.loop-test.true c.if1.true)
+    omega (arith, l.invariant.1, stopped a.entries a.used l.at a.index _ start.well_formed.0.1.0.1 start.requires c.before.loop-at-test.true c.if-index-entries.true)
 
-add_at : tie.Need-overflow-add-at invariant-loop decreases-loop
-add_at c = omega arith
+overflow_add-at : tie.Need-overflow_add-at invariant-loop-at decreases-loop-at
+overflow_add-at c = omega arith
 
-loop-less : tie.Need-loop-smaller invariant-loop decreases-loop
-loop-less c = omega arith
+loop-at-smaller : tie.Need-loop-at-smaller invariant-loop-at decreases-loop-at
+loop-at-smaller c = omega arith
 
-loop-again : tie.Need-loop-preserved invariant-loop decreases-loop
-loop-again c =
-    let l = c.before.before.loop in
+loop-at-preserved : tie.Need-loop-at-preserved invariant-loop-at decreases-loop-at
+loop-at-preserved c =
+    let l = c.before.before.loop-at in
     let start = c.before.before.before in
     let a = start.args in (
       omega arith,
-      rw (add-one l.at) (omega (arith, l.invariant.1, passed a.t1 a.used l.at a.index _ start.well-formed.0.1.0.1 start.requires c.before.loop-test.true c.if1.false)),
+      rw (add-one l.at) (omega (arith, l.invariant.1, passed a.entries a.used l.at a.index _ start.well_formed.0.1.0.1 start.requires c.before.loop-at-test.true c.if-index-entries.false)),
     )
 
-returns-2 : tie.Need-returns-2 invariant-loop decreases-loop
-returns-2 c =
-    let l = c.before.loop in
+returns : tie.Need-returns invariant-loop-at decreases-loop-at
+returns c =
+    let l = c.before.loop-at in
     let a = c.before.before.args in
     let done : l.at ≡ a.used = omega arith in
-    omega (arith, rw done at l.invariant.1, exhausted a.t1 a.used a.index)
+    omega (arith, rw done at l.invariant.1, exhausted a.entries a.used a.index)
 
 pub lower_bound_spec : {M : Type 1} → statement M
 lower_bound_spec =
     tie.close
     (tie.spec
-    invariant-loop
-    decreases-loop
-    loop-holds
-    mul-if1
-    element-copy-out-if1
-    returns
-    add_at
-    loop-less
-    loop-again
-    returns-2)
+    invariant-loop-at
+    decreases-loop-at
+    loop-at-init
+    offset_bounds-entries-at
+    bounds-entries-at
+    returns-then-index-entries
+    overflow_add-at
+    loop-at-smaller
+    loop-at-preserved
+    returns)
