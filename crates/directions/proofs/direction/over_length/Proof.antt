@@ -8,24 +8,27 @@ use borrow.Author.Rules.{rules}
 use Rattle.directions.proofs.direction.over_length.Statement.{statement}
 use Rattle.directions.proofs.direction.over_length.Tie as tie
 
-sqrt-requires : tie.Need-sqrt-requires
-sqrt-requires c κs = search rules
+sqrt-length-requires : tie.Need-sqrt-length-requires
+sqrt-length-requires c κs = search rules
 
-measured : (c : tie.After-sqrt) → c.sqrt.result ≡ length_of c.before.before.before.before.args.d
+measured : (c : tie.After-sqrt-length) → c.sqrt-length.result ≡ length_of c.before.before.before.before.args.d
 unfolding length_of sum_from of_bits neg
-measured c = c.sqrt.ensures
+measured c = c.sqrt-length.ensures
+
+returns-then-length : tie.Need-returns-then-length
+unfolding over_length of_bits
+returns-then-length c =
+    let root = c.before.before.before.before in
+    rw (← measured root, c.before.before.before.if-length.true)
 
 returns : tie.Need-returns
 unfolding over_length of_bits
 returns c =
-    let root = c.before.before.before.before in
-    rw (← measured root, c.before.before.before.if1.true)
-
-returns-2 : tie.Need-returns-2
-unfolding over_length of_bits
-returns-2 c =
     let root = c.before in
-    rw (← measured root, c.if1.false)
+    rw (← measured root, c.if-length.false)
 
 pub over_length_spec : {M : Type 1} → statement M
-over_length_spec = tie.close (tie.spec sqrt-requires returns returns-2)
+over_length_spec = tie.close (tie.spec
+    sqrt-length-requires
+    returns-then-length
+    returns)

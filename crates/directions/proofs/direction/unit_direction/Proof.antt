@@ -8,12 +8,15 @@ use Rattle.directions.proofs.direction.unit_direction.Tie as tie
 scaled-requires : tie.Need-scaled-requires
 scaled-requires c κs = search rules
 
-over-length-requires : tie.Need-over-length-requires
-over-length-requires c κs = search rules
+over_length-requires : tie.Need-over_length-requires
+over_length-requires c κs = search rules
 
 returns : tie.Need-returns
 unfolding unit_direction
-returns c = c.over-length.ensures ∙ ap over_length c.before.scaled.ensures
+returns c = c.over_length.ensures ∙ ap over_length c.before.scaled.ensures
 
 pub unit_direction_spec : {M : Type 1} → statement M
-unit_direction_spec = tie.close (tie.spec scaled-requires over-length-requires returns)
+unit_direction_spec = tie.close (tie.spec
+    scaled-requires
+    over_length-requires
+    returns)

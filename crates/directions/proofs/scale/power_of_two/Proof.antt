@@ -12,25 +12,30 @@ use Rattle.directions.proofs.Power.{power_bits}
 use Rattle.directions.proofs.scale.power_of_two.Statement.{statement}
 use Rattle.directions.proofs.scale.power_of_two.Tie as tie
 
-float-from-bits-result : tie.Need-float-from-bits-result
+float_from_bits-result : tie.Need-float_from_bits-result
 unfolding nan_bits
-float-from-bits-result c = tt
+float_from_bits-result c = tt
+
+returns-then-n-eq0 : tie.Need-returns-then-n-eq0
+unfolding of_bits power_of_two
+returns-then-n-eq0 c = rw c.if-n-eq0.true
+
+overflow_mul-result : tie.Need-overflow_mul-result
+overflow_mul-result c = search rules
+
+float_from_bits-result-2 : tie.Need-float_from_bits-result-2
+float_from_bits-result-2 c = subst (λ (t : Bool). T (not t)) (sym (below_is_no_nan _ (omega arith))) tt
 
 returns : tie.Need-returns
-unfolding of_bits power_of_two
-returns c = rw c.if1.true
-
-mul-result : tie.Need-overflow-mul-result
-mul-result c = search rules
-
-float-from-bits-result-2 : tie.Need-float-from-bits-result-2
-float-from-bits-result-2 c = subst (λ (t : Bool). T (not t)) (sym (below_is_no_nan _ (omega arith))) tt
-
-returns-2 : tie.Need-returns-2
 unfolding power_of_two
-returns-2 c = power_bits c.before.args.n (omega (arith, c.if1.false)) (omega arith)
+returns c = power_bits c.before.args.n (omega (arith, c.if-n-eq0.false)) (omega arith)
 
 pub power_of_two_spec : {M : Type 1} → statement M
 power_of_two_spec =
     tie.close
-    (tie.spec float-from-bits-result returns mul-result float-from-bits-result-2 returns-2)
+    (tie.spec
+    float_from_bits-result
+    returns-then-n-eq0
+    overflow_mul-result
+    float_from_bits-result-2
+    returns)

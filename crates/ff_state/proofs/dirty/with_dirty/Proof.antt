@@ -9,4 +9,5 @@ unfolding dirtied
 returns c = refl
 
 pub with_dirty_spec : {M : Type 1} → statement M
-with_dirty_spec = tie.close (tie.spec returns)
+with_dirty_spec = tie.close (tie.spec
+    returns)

@@ -5,60 +5,60 @@ use borrow.Author.Rules.{rules}
 use Rattle.ff_state.proofs.transforms.place_bits.Statement.{statement}
 use Rattle.ff_state.proofs.transforms.place_bits.Tie as tie
 
-enum_told : tie.Need-enum-told
-enum_told c = search rules
+enum_told-1 : tie.Need-enum_told-1
+enum_told-1 c = search rules
 
-add-result : tie.Need-overflow-add-result
-add-result c = search rules
+overflow_add-result : tie.Need-overflow_add-result
+overflow_add-result c = search rules
 
-add-result-2 : tie.Need-overflow-add-result-2
-add-result-2 c = search rules
+overflow_add-result-in-View : tie.Need-overflow_add-result-in-View
+overflow_add-result-in-View c = search rules
 
-enum-told-2 : tie.Need-enum-told-2
-enum-told-2 c = search rules
+enum_told-in-Projection : tie.Need-enum_told-in-Projection
+enum_told-in-Projection c = search rules
 
-enum-told-3 : tie.Need-enum-told-3
-enum-told-3 c = search rules
+enum_told-in-Texture : tie.Need-enum_told-in-Texture
+enum_told-in-Texture c = search rules
 
-enum-known-place : tie.Need-enum-known-place
-enum-known-place c = search rules
+enum_known-place : tie.Need-enum_known-place
+enum_known-place c = search rules
 
-add-result-3 : tie.Need-overflow-add-result-3
-add-result-3 c = search rules
+overflow_add-result-then-i-eq0 : tie.Need-overflow_add-result-then-i-eq0
+overflow_add-result-then-i-eq0 c = search rules
 
-returns : tie.Need-returns
+returns-in-View : tie.Need-returns-in-View
 unfolding place_sections
-returns c = rw c.enum_told.given.1
+returns-in-View c = rw c.in-View.is
 
-returns-2 : tie.Need-returns-2
+returns-in-Projection : tie.Need-returns-in-Projection
 unfolding place_sections
-returns-2 c = rw c.enum-told2.given.1
+returns-in-Projection c = rw c.in-Projection.is
 
-returns-3 : tie.Need-returns-3
+returns-in-Texture : tie.Need-returns-in-Texture
 unfolding place_sections
-returns-3 c = rw c.enum-told3.given.1
+returns-in-Texture c = rw c.in-Texture.is
 
-returns-4 : tie.Need-returns-4
+returns-then-i-eq0 : tie.Need-returns-then-i-eq0
 unfolding place_sections
-returns-4 c = rw (c.before.before.place.given.1, eq-eqb _ 0 c.if1.true)
+returns-then-i-eq0 c = rw (c.in-Palette.is, eq-eqb _ 0 c.if-i-eq0.true)
 
-returns-5 : tie.Need-returns-5
+returns-else-i-eq0 : tie.Need-returns-else-i-eq0
 unfolding place_sections
-returns-5 c = rw (c.before.before.place.given.1, ne_eqb _ 0 c.if1.false)
+returns-else-i-eq0 c = rw (c.in-Palette.is, ne_eqb _ 0 c.if-i-eq0.false)
 
 pub place_bits_spec : {M : Type 1} → statement M
 place_bits_spec =
     tie.close
     (tie.spec
-    enum_told
-    add-result
-    add-result-2
-    enum-told-2
-    enum-told-3
-    enum-known-place
-    add-result-3
-    returns
-    returns-2
-    returns-3
-    returns-4
-    returns-5)
+    enum_told-1
+    overflow_add-result
+    overflow_add-result-in-View
+    enum_told-in-Projection
+    enum_told-in-Texture
+    enum_known-place
+    overflow_add-result-then-i-eq0
+    returns-in-View
+    returns-in-Projection
+    returns-in-Texture
+    returns-then-i-eq0
+    returns-else-i-eq0)

@@ -6,59 +6,59 @@ use Rattle.ff_state.specs.Transforms.{InRange, place_matrix}
 use Rattle.ff_state.proofs.transforms.place_matrix.Statement.{statement}
 use Rattle.ff_state.proofs.transforms.place_matrix.Tie as tie
 
-enum_told : tie.Need-enum-told
-enum_told c = search rules
+enum_told-1 : tie.Need-enum_told-1
+enum_told-1 c = search rules
 
-enum-told-2 : tie.Need-enum-told-2
-enum-told-2 c = search rules
+enum_told-in-Projection : tie.Need-enum_told-in-Projection
+enum_told-in-Projection c = search rules
 
-enum-known-place : tie.Need-enum-known-place
-enum-known-place c = search rules
+enum_known-place : tie.Need-enum_known-place
+enum_known-place c = search rules
 
-mul-result : tie.Need-overflow-mul-result
-mul-result c = omega (arith, subst InRange c.before.before.place.given.1 c.before.before.before.before.requires)
+offset_bounds-textures-i : tie.Need-offset_bounds-textures-i
+offset_bounds-textures-i c = omega (arith, subst InRange c.in-Texture.is c.requires)
 
-array-copy-out-result : tie.Need-array-copy-out-result
-array-copy-out-result c = subst InRange c.before.before.place.given.1 c.before.before.before.before.requires
+bounds-textures-i : tie.Need-bounds-textures-i
+bounds-textures-i c = subst InRange c.in-Texture.is c.requires
 
-enum-known-place-2 : tie.Need-enum-known-place-2
-enum-known-place-2 c = search rules
+enum_known-place-in-Palette-1 : tie.Need-enum_known-place-in-Palette-1
+enum_known-place-in-Palette-1 c = search rules
 
-mul-result-2 : tie.Need-overflow-mul-result-2
-mul-result-2 c = omega (arith, subst InRange c.before.before.place2.given.1 c.before.before.before.before.requires)
+offset_bounds-palette-i : tie.Need-offset_bounds-palette-i
+offset_bounds-palette-i c = omega (arith, subst InRange c.in-Palette.is c.requires)
 
-array-copy-out-result-2 : tie.Need-array-copy-out-result-2
-array-copy-out-result-2 c = subst InRange c.before.before.place2.given.1 c.before.before.before.before.requires
+bounds-palette-i : tie.Need-bounds-palette-i
+bounds-palette-i c = subst InRange c.in-Palette.is c.requires
 
-returns : tie.Need-returns
+returns-in-View : tie.Need-returns-in-View
 unfolding place_matrix
-returns c = rw c.before.enum_told.given.1
+returns-in-View c = rw c.in-View.is
 
-returns-2 : tie.Need-returns-2
+returns-in-Projection : tie.Need-returns-in-Projection
 unfolding place_matrix
-returns-2 c = rw c.before.enum-told2.given.1
+returns-in-Projection c = rw c.in-Projection.is
 
-returns-3 : tie.Need-returns-3
+returns-in-Texture : tie.Need-returns-in-Texture
 unfolding place_matrix
-returns-3 c = rw c.before.before.before.place.given.1
+returns-in-Texture c = rw c.in-Texture.is
 
-returns-4 : tie.Need-returns-4
+returns-in-Palette : tie.Need-returns-in-Palette
 unfolding place_matrix
-returns-4 c = rw c.before.before.before.place2.given.1
+returns-in-Palette c = rw c.in-Palette.is
 
 pub place_matrix_spec : {M : Type 1} → statement M
 place_matrix_spec =
     tie.close
     (tie.spec
-    enum_told
-    enum-told-2
-    enum-known-place
-    mul-result
-    array-copy-out-result
-    enum-known-place-2
-    mul-result-2
-    array-copy-out-result-2
-    returns
-    returns-2
-    returns-3
-    returns-4)
+    enum_told-1
+    enum_told-in-Projection
+    enum_known-place
+    offset_bounds-textures-i
+    bounds-textures-i
+    enum_known-place-in-Palette-1
+    offset_bounds-palette-i
+    bounds-palette-i
+    returns-in-View
+    returns-in-Projection
+    returns-in-Texture
+    returns-in-Palette)

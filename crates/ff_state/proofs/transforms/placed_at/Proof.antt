@@ -14,72 +14,72 @@ raised h i l = max-eq_right (omega arith)
 kept : (h i : ℕ) → i ≤ h → max h i ≡ h
 kept h i l = max-eq_left l
 
-enum_told : tie.Need-enum-told
-enum_told c = search rules
+enum_told-1 : tie.Need-enum_told-1
+enum_told-1 c = search rules
 
-enum-told-2 : tie.Need-enum-told-2
-enum-told-2 c = search rules
+enum_told-in-Projection : tie.Need-enum_told-in-Projection
+enum_told-in-Projection c = search rules
 
-enum-known-place : tie.Need-enum-known-place
-enum-known-place c = search rules
+enum_known-place : tie.Need-enum_known-place
+enum_known-place c = search rules
 
-mul-m : tie.Need-overflow-mul-m
-mul-m c = omega (arith, subst InRange c.before.place.given.1 c.before.before.before.requires)
+offset_bounds-s-i : tie.Need-offset_bounds-s-i
+offset_bounds-s-i c = omega (arith, subst InRange c.in-Texture.is c.requires)
 
-element-set-from-m : tie.Need-element-set-from-m
-element-set-from-m c = subst InRange c.before.place.given.1 c.before.before.before.requires
+bounds-s-i : tie.Need-bounds-s-i
+bounds-s-i c = subst InRange c.in-Texture.is c.requires
 
-enum-known-place-2 : tie.Need-enum-known-place-2
-enum-known-place-2 c = search rules
+enum_known-place-in-Palette-1 : tie.Need-enum_known-place-in-Palette-1
+enum_known-place-in-Palette-1 c = search rules
 
-mul-m-2 : tie.Need-overflow-mul-m-2
-mul-m-2 c = omega (arith, subst InRange c.before.place2.given.1 c.before.before.before.requires)
+offset_bounds-s-i-in-Palette : tie.Need-offset_bounds-s-i-in-Palette
+offset_bounds-s-i-in-Palette c = omega (arith, subst InRange c.in-Palette.is c.requires)
 
-element-set-from-m-2 : tie.Need-element-set-from-m-2
-element-set-from-m-2 c = subst InRange c.before.place2.given.1 c.before.before.before.requires
+bounds-s-i-in-Palette : tie.Need-bounds-s-i-in-Palette
+bounds-s-i-in-Palette c = subst InRange c.in-Palette.is c.requires
 
-cast-if1 : tie.Need-overflow-cast-if1
-cast-if1 c = omega (arith, subst InRange c.before.place2.given.1 c.before.before.before.requires)
+overflow_cast-i : tie.Need-overflow_cast-i
+overflow_cast-i c = omega (arith, subst InRange c.in-Palette.is c.requires)
 
-cast-s : tie.Need-overflow-cast-s
-cast-s c = omega (arith, subst InRange c.before.before.place2.given.1 c.before.before.before.before.requires)
+overflow_cast-s : tie.Need-overflow_cast-s
+overflow_cast-s c = omega (arith, subst InRange c.in-Palette.is c.requires)
 
-returns : tie.Need-returns
+returns-in-View : tie.Need-returns-in-View
 unfolding placed
-returns c = rw c.enum_told.given.1
+returns-in-View c = rw c.in-View.is
 
-returns-2 : tie.Need-returns-2
+returns-in-Projection : tie.Need-returns-in-Projection
 unfolding placed
-returns-2 c = rw c.enum-told2.given.1
+returns-in-Projection c = rw c.in-Projection.is
 
-returns-3 : tie.Need-returns-3
+returns-in-Texture : tie.Need-returns-in-Texture
 unfolding placed
-returns-3 c = rw c.before.place.given.1
+returns-in-Texture c = rw c.in-Texture.is
 
-returns-4 : tie.Need-returns-4
+returns-then-s-i : tie.Need-returns-then-s-i
 unfolding placed
-returns-4 c = rw c.before.before.place2.given.1 (rw (raised _ _ c.if1.true))
+returns-then-s-i c = rw c.in-Palette.is (rw (raised _ _ c.if-s-i.true))
 
-returns-5 : tie.Need-returns-5
+returns-else-s-i : tie.Need-returns-else-s-i
 unfolding placed
-returns-5 c = rw c.before.before.place2.given.1 (rw (kept _ _ c.if1.false))
+returns-else-s-i c = rw c.in-Palette.is (rw (kept _ _ c.if-s-i.false))
 
 pub placed_at_spec : {M : Type 1} → statement M
 placed_at_spec =
     tie.close
     (tie.spec
-    enum_told
-    enum-told-2
-    enum-known-place
-    mul-m
-    element-set-from-m
-    enum-known-place-2
-    mul-m-2
-    element-set-from-m-2
-    cast-if1
-    cast-s
-    returns
-    returns-2
-    returns-3
-    returns-4
-    returns-5)
+    enum_told-1
+    enum_told-in-Projection
+    enum_known-place
+    offset_bounds-s-i
+    bounds-s-i
+    enum_known-place-in-Palette-1
+    offset_bounds-s-i-in-Palette
+    bounds-s-i-in-Palette
+    overflow_cast-i
+    overflow_cast-s
+    returns-in-View
+    returns-in-Projection
+    returns-in-Texture
+    returns-then-s-i
+    returns-else-s-i)

@@ -14,61 +14,61 @@ use Rattle.image_lists.proofs.Mask.{Masked, begins, goes_on, ends}
 use Rattle.image_lists.proofs.masks.set_mask.Statement.{statement}
 use Rattle.image_lists.proofs.masks.set_mask.Tie as tie
 
-abbrev invariant-loop : tie.invariant-loop
-invariant-loop defined lights mask₀ i₀ mask i = Masked (slot_set defined lights) lights mask i
+abbrev invariant-loop-i : tie.invariant-loop-i
+invariant-loop-i defined lights mask₀ i₀ mask i = Masked (slot_set defined lights) lights mask i
 
-abbrev decreases-loop : tie.decreases-loop
-decreases-loop defined lights mask₀ i₀ mask i = 8 - i
+abbrev decreases-loop-i : tie.decreases-loop-i
+decreases-loop-i defined lights mask₀ i₀ mask i = 8 - i
 
-loop-holds : tie.Need-loop-init invariant-loop decreases-loop
-loop-holds c = begins _ _ c.well-formed.1.0.1.0.1
+loop-i-init : tie.Need-loop-i-init invariant-loop-i decreases-loop-i
+loop-i-init c = begins _ _ c.well_formed.1.0.1.0.1
 
-cast-slot-set : tie.Need-overflow-cast-slot-set invariant-loop decreases-loop
-cast-slot-set c = omega arith
+overflow_cast-i : tie.Need-overflow_cast-i invariant-loop-i decreases-loop-i
+overflow_cast-i c = omega arith
 
-mul-slot-set : tie.Need-overflow-mul-slot-set invariant-loop decreases-loop
-mul-slot-set c = omega arith
+offset_bounds-lights-i : tie.Need-offset_bounds-lights-i invariant-loop-i decreases-loop-i
+offset_bounds-lights-i c = omega arith
 
-element-copy-out-slot-set : tie.Need-element-copy-out-slot-set invariant-loop decreases-loop
-element-copy-out-slot-set c = omega arith
+bounds-lights-i : tie.Need-bounds-lights-i invariant-loop-i decreases-loop-i
+bounds-lights-i c = omega arith
 
-slot-set-requires : tie.Need-slot-set-requires invariant-loop decreases-loop
-slot-set-requires c κs = omega arith
+slot_set-on-requires : tie.Need-slot_set-on-requires invariant-loop-i decreases-loop-i
+slot_set-on-requires c κs = omega arith
 
-with-bit-requires : tie.Need-with-bit-requires invariant-loop decreases-loop
-with-bit-requires c κs = omega arith
+with_bit-mask-requires : tie.Need-with_bit-mask-requires invariant-loop-i decreases-loop-i
+with_bit-mask-requires c κs = omega arith
 
-add-i : tie.Need-overflow-add-i invariant-loop decreases-loop
-add-i c = omega arith
+overflow_add-i : tie.Need-overflow_add-i invariant-loop-i decreases-loop-i
+overflow_add-i c = omega arith
 
-loop-less : tie.Need-loop-smaller invariant-loop decreases-loop
-loop-less c = omega arith
+loop-i-smaller : tie.Need-loop-i-smaller invariant-loop-i decreases-loop-i
+loop-i-smaller c = omega arith
 
-loop-again : tie.Need-loop-preserved invariant-loop decreases-loop
-loop-again c =
+loop-i-preserved : tie.Need-loop-i-preserved invariant-loop-i decreases-loop-i
+loop-i-preserved c =
     let l = c.before.before.before in
     let a = l.before.args in
-    let there = get_d_default a.t2 l.loop.i _ default_light (omega (arith, l.loop.invariant.count, c.before.before.loop-test.true)) in
-    goes_on _ _ l.loop.mask l.loop.i _ _ c.before.before.loop-test.true
-    (c.before.slot-set.ensures ∙ ap (λ (x : D3DLIGHT9). has_bit a.defined l.loop.i && contributes x.type_) there) c.with-bit.ensures l.loop.invariant
+    let there = get_d_default a.lights l.loop-i.i _ default_light (omega (arith, l.loop-i.invariant.count, c.before.before.loop-i-test.true)) in
+    goes_on _ _ l.loop-i.mask l.loop-i.i _ _ c.before.before.loop-i-test.true
+    (c.before.slot_set-on.ensures ∙ ap (λ (x : D3DLIGHT9). has_bit a.defined l.loop-i.i && contributes x.type_) there) c.with_bit-mask.ensures l.loop-i.invariant
 
-returns : tie.Need-returns invariant-loop decreases-loop
+returns : tie.Need-returns invariant-loop-i decreases-loop-i
 unfolding set_mask
-returns c = ends _ _ _ c.before.loop.i c.loop-test.false c.before.loop.invariant
+returns c = ends _ _ _ c.before.loop-i.i c.loop-i-test.false c.before.loop-i.invariant
 
 pub set_mask_spec : {M : Type 1} → statement M
 set_mask_spec =
     tie.close
     (tie.spec
-    invariant-loop
-    decreases-loop
-    loop-holds
-    cast-slot-set
-    mul-slot-set
-    element-copy-out-slot-set
-    slot-set-requires
-    with-bit-requires
-    add-i
-    loop-less
-    loop-again
+    invariant-loop-i
+    decreases-loop-i
+    loop-i-init
+    overflow_cast-i
+    offset_bounds-lights-i
+    bounds-lights-i
+    slot_set-on-requires
+    with_bit-mask-requires
+    overflow_add-i
+    loop-i-smaller
+    loop-i-preserved
     returns)

@@ -4,14 +4,17 @@ use borrow.Author.Rules.{rules}
 use Rattle.image_lists.proofs.masks.slot_is.Statement.{statement}
 use Rattle.image_lists.proofs.masks.slot_is.Tie as tie
 
-has-bit-requires : tie.Need-has-bit-requires
-has-bit-requires c κs = search rules
+has_bit-requires : tie.Need-has_bit-requires
+has_bit-requires c κs = search rules
+
+returns-then-has_bit : tie.Need-returns-then-has_bit
+returns-then-has_bit c = rw (← c.before.has_bit.ensures, c.if-has_bit.true)
 
 returns : tie.Need-returns
-returns c = rw (← c.before.has-bit.ensures, c.if1.true)
-
-returns-2 : tie.Need-returns-2
-returns-2 c = rw (← c.before.has-bit.ensures, c.if1.false)
+returns c = rw (← c.before.has_bit.ensures, c.if-has_bit.false)
 
 pub slot_is_spec : {M : Type 1} → statement M
-slot_is_spec = tie.close (tie.spec has-bit-requires returns returns-2)
+slot_is_spec = tie.close (tie.spec
+    has_bit-requires
+    returns-then-has_bit
+    returns)

@@ -4,17 +4,21 @@ use borrow.Author.Rules.{rules}
 use Rattle.image_lists.proofs.masks.slot_set.Statement.{statement}
 use Rattle.image_lists.proofs.masks.slot_set.Tie as tie
 
-has-bit-requires : tie.Need-has-bit-requires
-has-bit-requires c κs = search rules
+has_bit-requires : tie.Need-has_bit-requires
+has_bit-requires c κs = search rules
 
-light-type-contributes-requires : tie.Need-light-type-contributes-requires
-light-type-contributes-requires c κs = search rules
+light_type_contributes-requires : tie.Need-light_type_contributes-requires
+light_type_contributes-requires c κs = search rules
+
+returns-then-has_bit : tie.Need-returns-then-has_bit
+returns-then-has_bit c = rw (← c.before.before.has_bit.ensures, c.before.if-has_bit.true) c.light_type_contributes.ensures
 
 returns : tie.Need-returns
-returns c = rw (← c.before.before.has-bit.ensures, c.before.if1.true) c.light-type-contributes.ensures
-
-returns-2 : tie.Need-returns-2
-returns-2 c = rw (← c.before.has-bit.ensures, c.if1.false)
+returns c = rw (← c.before.has_bit.ensures, c.if-has_bit.false)
 
 pub slot_set_spec : {M : Type 1} → statement M
-slot_set_spec = tie.close (tie.spec has-bit-requires light-type-contributes-requires returns returns-2)
+slot_set_spec = tie.close (tie.spec
+    has_bit-requires
+    light_type_contributes-requires
+    returns-then-has_bit
+    returns)

@@ -8,61 +8,61 @@ use Rattle.image_lists.proofs.Reading.{Filled, begins, goes_on, ends}
 use Rattle.image_lists.proofs.read.lights_at.Statement.{statement}
 use Rattle.image_lists.proofs.read.lights_at.Tie as tie
 
-abbrev invariant-loop : tie.invariant-loop
-invariant-loop s at out₀ i₀ out i = Filled light_at 104 8 s at out i
+abbrev invariant-loop-i : tie.invariant-loop-i
+invariant-loop-i s at out₀ i₀ out i = Filled light_at 104 8 s at out i
 
-abbrev decreases-loop : tie.decreases-loop
-decreases-loop s at out₀ i₀ out i = 8 - i
+abbrev decreases-loop-i : tie.decreases-loop-i
+decreases-loop-i s at out₀ i₀ out i = 8 - i
 
-default-light-requires : tie.Need-default-light-requires invariant-loop decreases-loop
-default-light-requires c κs = tt
+default_light-out-requires : tie.Need-default_light-out-requires invariant-loop-i decreases-loop-i
+default_light-out-requires c κs = tt
 
-loop-holds : tie.Need-loop-init invariant-loop decreases-loop
-loop-holds c = begins light_at 104 8 _ _ _ refl
+loop-i-init : tie.Need-loop-i-init invariant-loop-i decreases-loop-i
+loop-i-init c = begins light_at 104 8 _ _ _ refl
 
-mul-light-at : tie.Need-overflow-mul-light-at invariant-loop decreases-loop
-mul-light-at c = omega arith
+overflow_mul-i : tie.Need-overflow_mul-i invariant-loop-i decreases-loop-i
+overflow_mul-i c = omega arith
 
-add-light-at : tie.Need-overflow-add-light-at invariant-loop decreases-loop
-add-light-at c = omega arith
+overflow_add-at : tie.Need-overflow_add-at invariant-loop-i decreases-loop-i
+overflow_add-at c = omega arith
 
-light-at-requires : tie.Need-light-at-requires invariant-loop decreases-loop
-light-at-requires c κs = omega arith
+light_at-requires : tie.Need-light_at-requires invariant-loop-i decreases-loop-i
+light_at-requires c κs = omega arith
 
-mul-out : tie.Need-overflow-mul-out invariant-loop decreases-loop
-mul-out c = omega arith
+offset_bounds-out-i : tie.Need-offset_bounds-out-i invariant-loop-i decreases-loop-i
+offset_bounds-out-i c = omega arith
 
-array-set-from-out : tie.Need-array-set-from-out invariant-loop decreases-loop
-array-set-from-out c = omega arith
+bounds-out-i : tie.Need-bounds-out-i invariant-loop-i decreases-loop-i
+bounds-out-i c = omega arith
 
-add-i : tie.Need-overflow-add-i invariant-loop decreases-loop
-add-i c = omega arith
+overflow_add-i : tie.Need-overflow_add-i invariant-loop-i decreases-loop-i
+overflow_add-i c = omega arith
 
-loop-less : tie.Need-loop-smaller invariant-loop decreases-loop
-loop-less c = omega arith
+loop-i-smaller : tie.Need-loop-i-smaller invariant-loop-i decreases-loop-i
+loop-i-smaller c = omega arith
 
-loop-again : tie.Need-loop-preserved invariant-loop decreases-loop
-loop-again c =
+loop-i-preserved : tie.Need-loop-i-preserved invariant-loop-i decreases-loop-i
+loop-i-preserved c =
     let l = c.before.before in
-    goes_on light_at 104 8 _ _ l.loop.out l.loop.i c.light-at.result c.before.loop-test.true c.light-at.ensures l.loop.invariant
+    goes_on light_at 104 8 _ _ l.loop-i.out l.loop-i.i c.light_at.result c.before.loop-i-test.true c.light_at.ensures l.loop-i.invariant
 
-returns : tie.Need-returns invariant-loop decreases-loop
-returns c = ends light_at 104 8 _ _ c.before.loop.out c.before.loop.i c.loop-test.false c.before.loop.invariant
+returns : tie.Need-returns invariant-loop-i decreases-loop-i
+returns c = ends light_at 104 8 _ _ c.before.loop-i.out c.before.loop-i.i c.loop-i-test.false c.before.loop-i.invariant
 
 pub lights_at_spec : {M : Type 1} → statement M
 lights_at_spec =
     tie.close
     (tie.spec
-    invariant-loop
-    decreases-loop
-    default-light-requires
-    loop-holds
-    mul-light-at
-    add-light-at
-    light-at-requires
-    mul-out
-    array-set-from-out
-    add-i
-    loop-less
-    loop-again
+    invariant-loop-i
+    decreases-loop-i
+    default_light-out-requires
+    loop-i-init
+    overflow_mul-i
+    overflow_add-at
+    light_at-requires
+    offset_bounds-out-i
+    bounds-out-i
+    overflow_add-i
+    loop-i-smaller
+    loop-i-preserved
     returns)

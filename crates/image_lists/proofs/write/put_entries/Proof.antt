@@ -9,65 +9,65 @@ use borrow.Author.Rules.{rules}
 use Rattle.image_lists.proofs.write.put_entries.Statement.{statement}
 use Rattle.image_lists.proofs.write.put_entries.Tie as tie
 
-abbrev invariant-loop : tie.invariant-loop
-invariant-loop dst₀ at entries i₀ dst i = Stands entry_bytes 56 at entries dst₀ dst i
+abbrev invariant-loop-i : tie.invariant-loop-i
+invariant-loop-i dst₀ at entries i₀ dst i = Stands entry_bytes 56 at entries dst₀ dst i
 
-abbrev decreases-loop : tie.decreases-loop
-decreases-loop dst₀ at entries i₀ dst i = 56 - i
+abbrev decreases-loop-i : tie.decreases-loop-i
+decreases-loop-i dst₀ at entries i₀ dst i = 56 - i
 
-loop-holds : tie.Need-loop-init invariant-loop decreases-loop
-loop-holds c = begins entry_bytes 56 _ _ _ c.before.well-formed.1.1.0.1.0.1
+loop-i-init : tie.Need-loop-i-init invariant-loop-i decreases-loop-i
+loop-i-init c = begins entry_bytes 56 _ _ _ c.before.well_formed.1.1.0.1.0.1
 
-mul-put-entry : tie.Need-overflow-mul-put-entry invariant-loop decreases-loop
-mul-put-entry c = omega arith
+overflow_mul-i : tie.Need-overflow_mul-i invariant-loop-i decreases-loop-i
+overflow_mul-i c = omega arith
 
-add-put-entry : tie.Need-overflow-add-put-entry invariant-loop decreases-loop
-add-put-entry c = omega arith
+overflow_add-at : tie.Need-overflow_add-at invariant-loop-i decreases-loop-i
+overflow_add-at c = omega arith
 
-mul-put-entry-2 : tie.Need-overflow-mul-put-entry-2 invariant-loop decreases-loop
-mul-put-entry-2 c = omega arith
+offset_bounds-entries-i : tie.Need-offset_bounds-entries-i invariant-loop-i decreases-loop-i
+offset_bounds-entries-i c = omega arith
 
-array-copy-out-put-entry : tie.Need-array-copy-out-put-entry invariant-loop decreases-loop
-array-copy-out-put-entry c = omega arith
+bounds-entries-i : tie.Need-bounds-entries-i invariant-loop-i decreases-loop-i
+bounds-entries-i c = omega arith
 
-put-entry-requires : tie.Need-put-entry-requires invariant-loop decreases-loop
-put-entry-requires c κs = omega arith
+put_entry-requires : tie.Need-put_entry-requires invariant-loop-i decreases-loop-i
+put_entry-requires c κs = omega arith
 
-add-i : tie.Need-overflow-add-i invariant-loop decreases-loop
-add-i c = omega arith
+overflow_add-i : tie.Need-overflow_add-i invariant-loop-i decreases-loop-i
+overflow_add-i c = omega arith
 
-loop-less : tie.Need-loop-smaller invariant-loop decreases-loop
-loop-less c = omega arith
+loop-i-smaller : tie.Need-loop-i-smaller invariant-loop-i decreases-loop-i
+loop-i-smaller c = omega arith
 
-loop-again : tie.Need-loop-preserved invariant-loop decreases-loop
-loop-again c =
+loop-i-preserved : tie.Need-loop-i-preserved invariant-loop-i decreases-loop-i
+loop-i-preserved c =
     let put = c.before.before in
     let l = put.before.before.before.before in
     let a = l.before.before.args in
-    goes_on entry_bytes 56 a.at a.t3 a.dst.now 112 length-entry_bytes l.loop.i _ l.loop.dst _ l.before.before.requires l.loop.invariant (omega arith) put.put-entry.auto.0 put.put-entry.ensures
+    goes_on entry_bytes 56 a.at a.entries a.dst.now 112 length-entry_bytes l.loop-i.i _ l.loop-i.dst _ l.before.before.requires l.loop-i.invariant (omega arith) put.put_entry.auto.0 put.put_entry.ensures
 
-same_length : tie.Need-same-length invariant-loop decreases-loop
-same_length c = search rules
+shape_of-dst : tie.Need-shape_of-dst invariant-loop-i decreases-loop-i
+shape_of-dst c = search rules
 
-returns : tie.Need-returns invariant-loop decreases-loop
+returns : tie.Need-returns invariant-loop-i decreases-loop-i
 returns c =
     let a = c.before.before.before.args in
-    ends entry_bytes 56 a.at a.t3 a.dst.now c.before.loop.i c.before.loop.dst c.loop-test.false c.before.loop.invariant
+    ends entry_bytes 56 a.at a.entries a.dst.now c.before.loop-i.i c.before.loop-i.dst c.loop-i-test.false c.before.loop-i.invariant
 
 pub put_entries_spec : {M : Type 1} → statement M
 put_entries_spec =
     tie.close
     (tie.spec
-    invariant-loop
-    decreases-loop
-    loop-holds
-    mul-put-entry
-    add-put-entry
-    mul-put-entry-2
-    array-copy-out-put-entry
-    put-entry-requires
-    add-i
-    loop-less
-    loop-again
-    same_length
+    invariant-loop-i
+    decreases-loop-i
+    loop-i-init
+    overflow_mul-i
+    overflow_add-at
+    offset_bounds-entries-i
+    bounds-entries-i
+    put_entry-requires
+    overflow_add-i
+    loop-i-smaller
+    loop-i-preserved
+    shape_of-dst
     returns)

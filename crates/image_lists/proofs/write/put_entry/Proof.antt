@@ -13,23 +13,23 @@ use borrow.Author.Rules.{rules}
 use Rattle.image_lists.proofs.write.put_entry.Statement.{statement}
 use Rattle.image_lists.proofs.write.put_entry.Tie as tie
 
-put-u32-requires : tie.Need-put-u32-requires
-put-u32-requires c κs = search rules
+put_u32-requires : tie.Need-put_u32-requires
+put_u32-requires c κs = search rules
 
-add-put-u32 : tie.Need-overflow-add-put-u32
-add-put-u32 c = search rules
+overflow_add-at : tie.Need-overflow_add-at
+overflow_add-at c = search rules
 
-put-u32-requires-2 : tie.Need-put-u32-requires-2
-put-u32-requires-2 c κs = search rules
+put_u32-requires-2 : tie.Need-put_u32-requires-2
+put_u32-requires-2 c κs = search rules
 
-add-put-light : tie.Need-overflow-add-put-light
-add-put-light c = search rules
+overflow_add-at-2 : tie.Need-overflow_add-at-2
+overflow_add-at-2 c = search rules
 
-put-light-requires : tie.Need-put-light-requires
-put-light-requires c κs = search rules
+put_light-requires : tie.Need-put_light-requires
+put_light-requires c κs = search rules
 
-same_length : tie.Need-same-length
-same_length c = search rules
+shape_of-dst : tie.Need-shape_of-dst
+shape_of-dst c = search rules
 
 returns : tie.Need-returns
 unfolding flatten entry_bytes little_bytes
@@ -40,17 +40,17 @@ returns c =
     let a = c₁.before.before.before in
     let e = a.args.e in
     let long : length (light_bytes e.light ++ []) ≡ 104 = rw append-nil (length-light_bytes e.light) in
-    rw (c₃.put-light.ensures, c₂.put-u322.ensures, c₁.put-u32.ensures)
+    rw (c₃.put_light.ensures, c₂.put_u32-2.ensures, c₁.put_u32.ensures)
     (puts_are a.args.at 4 (little_bytes 4 e.index) (little_bytes 4 e.enabled ∷ light_bytes e.light ∷ []) a.args.dst.now refl (omega arith))
 
 pub put_entry_spec : {M : Type 1} → statement M
 put_entry_spec =
     tie.close
     (tie.spec
-    put-u32-requires
-    add-put-u32
-    put-u32-requires-2
-    add-put-light
-    put-light-requires
-    same_length
+    put_u32-requires
+    overflow_add-at
+    put_u32-requires-2
+    overflow_add-at-2
+    put_light-requires
+    shape_of-dst
     returns)

@@ -9,65 +9,65 @@ use borrow.Author.Rules.{rules}
 use Rattle.image_lists.proofs.write.put_textures.Statement.{statement}
 use Rattle.image_lists.proofs.write.put_textures.Tie as tie
 
-abbrev invariant-loop : tie.invariant-loop
-invariant-loop dst₀ at ms i₀ dst i = Stands matrix_bytes 8 at ms dst₀ dst i
+abbrev invariant-loop-i : tie.invariant-loop-i
+invariant-loop-i dst₀ at ms i₀ dst i = Stands matrix_bytes 8 at ms dst₀ dst i
 
-abbrev decreases-loop : tie.decreases-loop
-decreases-loop dst₀ at ms i₀ dst i = 8 - i
+abbrev decreases-loop-i : tie.decreases-loop-i
+decreases-loop-i dst₀ at ms i₀ dst i = 8 - i
 
-loop-holds : tie.Need-loop-init invariant-loop decreases-loop
-loop-holds c = begins matrix_bytes 8 _ _ _ c.before.well-formed.1.1.0.1.0.1
+loop-i-init : tie.Need-loop-i-init invariant-loop-i decreases-loop-i
+loop-i-init c = begins matrix_bytes 8 _ _ _ c.before.well_formed.1.1.0.1.0.1
 
-mul-put-matrix : tie.Need-overflow-mul-put-matrix invariant-loop decreases-loop
-mul-put-matrix c = omega arith
+overflow_mul-i : tie.Need-overflow_mul-i invariant-loop-i decreases-loop-i
+overflow_mul-i c = omega arith
 
-add-put-matrix : tie.Need-overflow-add-put-matrix invariant-loop decreases-loop
-add-put-matrix c = omega arith
+overflow_add-at : tie.Need-overflow_add-at invariant-loop-i decreases-loop-i
+overflow_add-at c = omega arith
 
-mul-put-matrix-2 : tie.Need-overflow-mul-put-matrix-2 invariant-loop decreases-loop
-mul-put-matrix-2 c = omega arith
+offset_bounds-ms-i : tie.Need-offset_bounds-ms-i invariant-loop-i decreases-loop-i
+offset_bounds-ms-i c = omega arith
 
-array-copy-out-put-matrix : tie.Need-array-copy-out-put-matrix invariant-loop decreases-loop
-array-copy-out-put-matrix c = omega arith
+bounds-ms-i : tie.Need-bounds-ms-i invariant-loop-i decreases-loop-i
+bounds-ms-i c = omega arith
 
-put-matrix-requires : tie.Need-put-matrix-requires invariant-loop decreases-loop
-put-matrix-requires c κs = omega arith
+put_matrix-requires : tie.Need-put_matrix-requires invariant-loop-i decreases-loop-i
+put_matrix-requires c κs = omega arith
 
-add-i : tie.Need-overflow-add-i invariant-loop decreases-loop
-add-i c = omega arith
+overflow_add-i : tie.Need-overflow_add-i invariant-loop-i decreases-loop-i
+overflow_add-i c = omega arith
 
-loop-less : tie.Need-loop-smaller invariant-loop decreases-loop
-loop-less c = omega arith
+loop-i-smaller : tie.Need-loop-i-smaller invariant-loop-i decreases-loop-i
+loop-i-smaller c = omega arith
 
-loop-again : tie.Need-loop-preserved invariant-loop decreases-loop
-loop-again c =
+loop-i-preserved : tie.Need-loop-i-preserved invariant-loop-i decreases-loop-i
+loop-i-preserved c =
     let put = c.before.before in
     let l = put.before.before.before.before in
     let a = l.before.before.args in
-    goes_on matrix_bytes 8 a.at a.t3 a.dst.now 64 length-matrix_bytes l.loop.i _ l.loop.dst _ l.before.before.requires l.loop.invariant (omega arith) put.put-matrix.auto.0 put.put-matrix.ensures
+    goes_on matrix_bytes 8 a.at a.ms a.dst.now 64 length-matrix_bytes l.loop-i.i _ l.loop-i.dst _ l.before.before.requires l.loop-i.invariant (omega arith) put.put_matrix.auto.0 put.put_matrix.ensures
 
-same_length : tie.Need-same-length invariant-loop decreases-loop
-same_length c = search rules
+shape_of-dst : tie.Need-shape_of-dst invariant-loop-i decreases-loop-i
+shape_of-dst c = search rules
 
-returns : tie.Need-returns invariant-loop decreases-loop
+returns : tie.Need-returns invariant-loop-i decreases-loop-i
 returns c =
     let a = c.before.before.before.args in
-    ends matrix_bytes 8 a.at a.t3 a.dst.now c.before.loop.i c.before.loop.dst c.loop-test.false c.before.loop.invariant
+    ends matrix_bytes 8 a.at a.ms a.dst.now c.before.loop-i.i c.before.loop-i.dst c.loop-i-test.false c.before.loop-i.invariant
 
 pub put_textures_spec : {M : Type 1} → statement M
 put_textures_spec =
     tie.close
     (tie.spec
-    invariant-loop
-    decreases-loop
-    loop-holds
-    mul-put-matrix
-    add-put-matrix
-    mul-put-matrix-2
-    array-copy-out-put-matrix
-    put-matrix-requires
-    add-i
-    loop-less
-    loop-again
-    same_length
+    invariant-loop-i
+    decreases-loop-i
+    loop-i-init
+    overflow_mul-i
+    overflow_add-at
+    offset_bounds-ms-i
+    bounds-ms-i
+    put_matrix-requires
+    overflow_add-i
+    loop-i-smaller
+    loop-i-preserved
+    shape_of-dst
     returns)

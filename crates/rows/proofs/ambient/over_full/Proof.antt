@@ -7,12 +7,14 @@ use borrow.Author.Rules.{rules}
 use Rattle.rows.proofs.ambient.over_full.Statement.{statement}
 use Rattle.rows.proofs.ambient.over_full.Tie as tie
 
-int-to-float-result : tie.Need-int-to-float-result
-int-to-float-result c = search rules
+int_to_float-result : tie.Need-int_to_float-result
+int_to_float-result c = search rules
 
 returns : tie.Need-returns
 unfolding over_full of_bits of_int
 returns c = refl
 
 pub over_full_spec : {M : Type 1} → statement M
-over_full_spec = tie.close (tie.spec int-to-float-result returns)
+over_full_spec = tie.close (tie.spec
+    int_to_float-result
+    returns)

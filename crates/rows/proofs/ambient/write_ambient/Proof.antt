@@ -7,23 +7,27 @@ use borrow.Author.Rules.{rules}
 use Rattle.rows.proofs.ambient.write_ambient.Statement.{statement}
 use Rattle.rows.proofs.ambient.write_ambient.Tie as tie
 
-d3dcolor-to-rgba-f32-requires : tie.Need-d3dcolor-to-rgba-f32-requires
-d3dcolor-to-rgba-f32-requires c κs = search rules
+d3dcolor_to_rgba_f32-requires : tie.Need-d3dcolor_to_rgba_f32-requires
+d3dcolor_to_rgba_f32-requires c κs = search rules
 
-write-row-requires : tie.Need-write-row-requires
-write-row-requires c κs = search rules
+write_row-requires : tie.Need-write_row-requires
+write_row-requires c κs = search rules
 
-same_length : tie.Need-same-length
-same_length c = search rules
+shape_of-dst : tie.Need-shape_of-dst
+shape_of-dst c = search rules
 
 returns : tie.Need-returns
 returns c =
     let wrote = c.before.before in
     let given = wrote.before.before.before.before in
     let a = given.args in
-    rw (wrote.write-row.ensures, wrote.before.d3dcolor-to-rgba-f32.ensures)
+    rw (wrote.write_row.ensures, wrote.before.d3dcolor_to_rgba_f32.ensures)
     (written_whole (rgba_of a.color) [] a.dst.now given.requires)
 
 pub write_ambient_spec : {M : Type 1} → statement M
 write_ambient_spec =
-    tie.close (tie.spec d3dcolor-to-rgba-f32-requires write-row-requires same_length returns)
+    tie.close (tie.spec
+    d3dcolor_to_rgba_f32-requires
+    write_row-requires
+    shape_of-dst
+    returns)

@@ -47,72 +47,72 @@ module _ (l sp : Bool) (m : D3DMATERIAL9) (dst : List Float) (whole : length dst
         (sym (sets_append dst 0 (floats (material_rows true false m)) (row_floats (power_row m)))
         ∙ sets_whole (floats (material_rows true true m)) dst (rw (e, q) at whole))
 
-color-row-requires : tie.Need-color-row-requires
-color-row-requires c κs = search rules
+color_row-requires : tie.Need-color_row-requires
+color_row-requires c κs = search rules
 
-write-row-requires : tie.Need-write-row-requires
-write-row-requires c κs = let a = c.before.before.before.before in least _ _ _ a.args.dst.now a.requires
+write_row-requires : tie.Need-write_row-requires
+write_row-requires c κs = let a = c.before.before.before.before in least _ _ _ a.args.dst.now a.requires
 
-same_length : tie.Need-same-length
-same_length c = search rules
+shape_of-dst-then-not-lit : tie.Need-shape_of-dst-then-not-lit
+shape_of-dst-then-not-lit c = search rules
 
-returns : tie.Need-returns
-returns c =
+returns-then-not-lit : tie.Need-returns-then-not-lit
+returns-then-not-lit c =
     let wrote = c.before.before in
     let test = wrote.before.before.before in
     let a = test.before.before.args in
-    rw (wrote.write-row.ensures, wrote.before.color-row.ensures)
-    (unlit a.lit a.specular a.m a.dst.now test.before.before.requires (not-true a.lit test.if1.true))
+    rw (wrote.write_row.ensures, wrote.before.color_row.ensures)
+    (unlit a.lit a.specular a.m a.dst.now test.before.before.requires (not-true a.lit test.if-not-lit.true))
 
-write-colors-requires : tie.Need-write-colors-requires
-write-colors-requires c κs =
+write_colors-requires : tie.Need-write_colors-requires
+write_colors-requires c κs =
     let test = c.before in
     let a = test.before.before.args in
-    least-lit a.lit a.specular a.m a.dst.now test.before.before.requires (not-false a.lit test.if1.false)
+    least-lit a.lit a.specular a.m a.dst.now test.before.before.requires (not-false a.lit test.if-not-lit.false)
 
-same-length-2 : tie.Need-same-length-2
-same-length-2 c = search rules
+shape_of-dst-then-not-specular : tie.Need-shape_of-dst-then-not-specular
+shape_of-dst-then-not-specular c = search rules
 
-returns-2 : tie.Need-returns-2
-returns-2 c =
+returns-then-not-specular : tie.Need-returns-then-not-specular
+returns-then-not-specular c =
     let wrote = c.before.before.before in
     let test = wrote.before.before in
     let a = test.before.before.args in
-    rw wrote.write-colors.ensures
-    (matte a.lit a.specular a.m a.dst.now test.before.before.requires (not-false a.lit test.if1.false) (not-true a.specular c.if2.true))
+    rw wrote.write_colors.ensures
+    (matte a.lit a.specular a.m a.dst.now test.before.before.requires (not-false a.lit test.if-not-lit.false) (not-true a.specular c.if-not-specular.true))
 
-write-row-requires-2 : tie.Need-write-row-requires-2
-write-row-requires-2 c κs =
+write_row-requires-2 : tie.Need-write_row-requires-2
+write_row-requires-2 c κs =
     let wrote = c.before.before.before.before in
     let test = wrote.before.before in
     let a = test.before.before.args in
-    omega (arith, wrote.write-colors.auto.0, least-specular a.lit a.specular a.m a.dst.now test.before.before.requires (not-false a.lit test.if1.false) (not-false a.specular c.before.if2.false))
+    omega (arith, wrote.write_colors.auto.0, least-specular a.lit a.specular a.m a.dst.now test.before.before.requires (not-false a.lit test.if-not-lit.false) (not-false a.specular c.before.if-not-specular.false))
 
-same-length-3 : tie.Need-same-length-3
-same-length-3 c = search rules
+shape_of-dst : tie.Need-shape_of-dst
+shape_of-dst c = search rules
 
-returns-3 : tie.Need-returns-3
+returns : tie.Need-returns
 unfolding of_bits
-returns-3 c =
+returns c =
     let last = c.before.before in
     let lit = last.before.before in
     let wrote = lit.before.before.before in
     let test = wrote.before.before in
     let a = test.before.before.args in
-    rw (last.write-row2.ensures, wrote.write-colors.ensures)
-    (shiny a.lit a.specular a.m a.dst.now test.before.before.requires (not-false a.lit test.if1.false) (not-false a.specular lit.if2.false))
+    rw (last.write_row-2.ensures, wrote.write_colors.ensures)
+    (shiny a.lit a.specular a.m a.dst.now test.before.before.requires (not-false a.lit test.if-not-lit.false) (not-false a.specular lit.if-not-specular.false))
 
 pub write_material_spec : {M : Type 1} → statement M
 write_material_spec =
     tie.close
     (tie.spec
-    color-row-requires
-    write-row-requires
-    same_length
-    returns
-    write-colors-requires
-    same-length-2
-    returns-2
-    write-row-requires-2
-    same-length-3
-    returns-3)
+    color_row-requires
+    write_row-requires
+    shape_of-dst-then-not-lit
+    returns-then-not-lit
+    write_colors-requires
+    shape_of-dst-then-not-specular
+    returns-then-not-specular
+    write_row-requires-2
+    shape_of-dst
+    returns)

@@ -6,30 +6,30 @@ use borrow.Author.Rules.{rules}
 use Rattle.rows.proofs.palette.product.Statement.{statement}
 use Rattle.rows.proofs.palette.product.Tie as tie
 
-times-row-requires : tie.Need-times-row-requires
-times-row-requires c κs = search rules
+times_row-requires : tie.Need-times_row-requires
+times_row-requires c κs = search rules
 
-times-row-requires-2 : tie.Need-times-row-requires-2
-times-row-requires-2 c κs = search rules
+times_row-requires-2 : tie.Need-times_row-requires-2
+times_row-requires-2 c κs = search rules
 
-times-row-requires-3 : tie.Need-times-row-requires-3
-times-row-requires-3 c κs = search rules
+times_row-requires-3 : tie.Need-times_row-requires-3
+times_row-requires-3 c κs = search rules
 
-times-row-requires-4 : tie.Need-times-row-requires-4
-times-row-requires-4 c κs = search rules
+times_row-requires-4 : tie.Need-times_row-requires-4
+times_row-requires-4 c κs = search rules
 
 returns : tie.Need-returns
 unfolding mat_mul times_row row
 returns c =
     rw
-    (c.before.before.before.times-row.ensures, c.before.before.times-row2.ensures, c.before.times-row3.ensures, c.times-row4.ensures)
+    (c.before.before.before.times_row.ensures, c.before.before.times_row-2.ensures, c.before.times_row-3.ensures, c.times_row-4.ensures)
 
 pub product_spec : {M : Type 1} → statement M
 product_spec =
     tie.close
     (tie.spec
-    times-row-requires
-    times-row-requires-2
-    times-row-requires-3
-    times-row-requires-4
+    times_row-requires
+    times_row-requires-2
+    times_row-requires-3
+    times_row-requires-4
     returns)

@@ -6,29 +6,29 @@ use borrow.Author.Rules.{rules}
 use Rattle.rows.proofs.write.write_matrix.Statement.{statement}
 use Rattle.rows.proofs.write.write_matrix.Tie as tie
 
-write-row-requires : tie.Need-write-row-requires
-write-row-requires c κs = search rules
+write_row-requires : tie.Need-write_row-requires
+write_row-requires c κs = search rules
 
-add-write-row : tie.Need-overflow-add-write-row
-add-write-row c = search rules
+overflow_add-at : tie.Need-overflow_add-at
+overflow_add-at c = search rules
 
-write-row-requires-2 : tie.Need-write-row-requires-2
-write-row-requires-2 c κs = search rules
+write_row-requires-2 : tie.Need-write_row-requires-2
+write_row-requires-2 c κs = search rules
 
-add-write-row-2 : tie.Need-overflow-add-write-row-2
-add-write-row-2 c = search rules
+overflow_add-at-2 : tie.Need-overflow_add-at-2
+overflow_add-at-2 c = search rules
 
-write-row-requires-3 : tie.Need-write-row-requires-3
-write-row-requires-3 c κs = search rules
+write_row-requires-3 : tie.Need-write_row-requires-3
+write_row-requires-3 c κs = search rules
 
-add-write-row-3 : tie.Need-overflow-add-write-row-3
-add-write-row-3 c = search rules
+overflow_add-at-3 : tie.Need-overflow_add-at-3
+overflow_add-at-3 c = search rules
 
-write-row-requires-4 : tie.Need-write-row-requires-4
-write-row-requires-4 c κs = search rules
+write_row-requires-4 : tie.Need-write_row-requires-4
+write_row-requires-4 c κs = search rules
 
-same_length : tie.Need-same-length
-same_length c = search rules
+shape_of-dst : tie.Need-shape_of-dst
+shape_of-dst c = search rules
 
 returns : tie.Need-returns
 returns c =
@@ -38,19 +38,19 @@ returns c =
     let c₁ = c₂.before.before.before.before in
     let a = c₁.before.before.before in
     let v = a.args.m in
-    rw (c₄.write-row4.ensures, c₃.write-row3.ensures, c₂.write-row2.ensures, c₁.write-row.ensures)
+    rw (c₄.write_row-4.ensures, c₃.write_row-3.ensures, c₂.write_row-2.ensures, c₁.write_row.ensures)
     (written_from a.args.at v.r0 (v.r1 ∷ v.r2 ∷ v.r3 ∷ []) a.args.dst.now)
 
 pub write_matrix_spec : {M : Type 1} → statement M
 write_matrix_spec =
     tie.close
     (tie.spec
-    write-row-requires
-    add-write-row
-    write-row-requires-2
-    add-write-row-2
-    write-row-requires-3
-    add-write-row-3
-    write-row-requires-4
-    same_length
+    write_row-requires
+    overflow_add-at
+    write_row-requires-2
+    overflow_add-at-2
+    write_row-requires-3
+    overflow_add-at-3
+    write_row-requires-4
+    shape_of-dst
     returns)

@@ -7,41 +7,41 @@ use borrow.Author.Rules.{rules}
 use Rattle.rows.proofs.write.write_row.Statement.{statement}
 use Rattle.rows.proofs.write.write_row.Tie as tie
 
-mul-dst : tie.Need-overflow-mul-dst
-mul-dst c = search rules
+offset_bounds-dst-at : tie.Need-offset_bounds-dst-at
+offset_bounds-dst-at c = search rules
 
-slice-write-dst : tie.Need-slice-write-dst
-slice-write-dst c = search rules
+bounds-dst-at : tie.Need-bounds-dst-at
+bounds-dst-at c = search rules
 
-add-dst : tie.Need-overflow-add-dst
-add-dst c = search rules
+overflow_add-dst : tie.Need-overflow_add-dst
+overflow_add-dst c = search rules
 
-mul-dst-2 : tie.Need-overflow-mul-dst-2
-mul-dst-2 c = search rules
+offset_bounds-dst-at-2 : tie.Need-offset_bounds-dst-at-2
+offset_bounds-dst-at-2 c = search rules
 
-slice-write-dst-2 : tie.Need-slice-write-dst-2
-slice-write-dst-2 c = simp length-set (omega arith)
+bounds-dst-at-2 : tie.Need-bounds-dst-at-2
+bounds-dst-at-2 c = simp length-set (omega arith)
 
-add-dst-2 : tie.Need-overflow-add-dst-2
-add-dst-2 c = search rules
+overflow_add-dst-2 : tie.Need-overflow_add-dst-2
+overflow_add-dst-2 c = search rules
 
-mul-dst-3 : tie.Need-overflow-mul-dst-3
-mul-dst-3 c = search rules
+offset_bounds-dst-at-3 : tie.Need-offset_bounds-dst-at-3
+offset_bounds-dst-at-3 c = search rules
 
-slice-write-dst-3 : tie.Need-slice-write-dst-3
-slice-write-dst-3 c = simp length-set (omega arith)
+bounds-dst-at-3 : tie.Need-bounds-dst-at-3
+bounds-dst-at-3 c = simp length-set (omega arith)
 
-add-dst-3 : tie.Need-overflow-add-dst-3
-add-dst-3 c = search rules
+overflow_add-dst-3 : tie.Need-overflow_add-dst-3
+overflow_add-dst-3 c = search rules
 
-mul-dst-4 : tie.Need-overflow-mul-dst-4
-mul-dst-4 c = search rules
+offset_bounds-dst-at-4 : tie.Need-offset_bounds-dst-at-4
+offset_bounds-dst-at-4 c = search rules
 
-slice-write-dst-4 : tie.Need-slice-write-dst-4
-slice-write-dst-4 c = simp length-set (omega arith)
+bounds-dst-at-4 : tie.Need-bounds-dst-at-4
+bounds-dst-at-4 c = simp length-set (omega arith)
 
-same_length : tie.Need-same-length
-same_length c = search rules
+shape_of-dst : tie.Need-shape_of-dst
+shape_of-dst c = search rules
 
 returns : tie.Need-returns
 returns c = sets_four c.args.dst.now c.args.at _ _ _ _
@@ -50,16 +50,16 @@ pub write_row_spec : {M : Type 1} → statement M
 write_row_spec =
     tie.close
     (tie.spec
-    mul-dst
-    slice-write-dst
-    add-dst
-    mul-dst-2
-    slice-write-dst-2
-    add-dst-2
-    mul-dst-3
-    slice-write-dst-3
-    add-dst-3
-    mul-dst-4
-    slice-write-dst-4
-    same_length
+    offset_bounds-dst-at
+    bounds-dst-at
+    overflow_add-dst
+    offset_bounds-dst-at-2
+    bounds-dst-at-2
+    overflow_add-dst-2
+    offset_bounds-dst-at-3
+    bounds-dst-at-3
+    overflow_add-dst-3
+    offset_bounds-dst-at-4
+    bounds-dst-at-4
+    shape_of-dst
     returns)

@@ -9,25 +9,30 @@ use Rattle.ff_state.specs.declared.dirty.MarkAnswer.TheVariants.{Accepted}
 use Rattle.ff_state.proofs.state.FfState.mark_ff_vs_dirty.Statement.{statement}
 use Rattle.ff_state.proofs.state.FfState.mark_ff_vs_dirty.Tie as tie
 
-cast-if1 : tie.Need-overflow-cast-if1
-cast-if1 c = search rules
+overflow_cast-t-3 : tie.Need-overflow_cast-t-3
+overflow_cast-t-3 c = search rules
+
+returns-then-bits : tie.Need-returns-then-bits
+unfolding mark_ff_vs_dirty
+returns-then-bits c = rw (lt-leb c.before.args.bits all_bits c.if-bits.true)
+
+overflow_cast-bits : tie.Need-overflow_cast-bits
+overflow_cast-bits c = search rules
+
+with_dirty-self-requires : tie.Need-with_dirty-self-requires
+with_dirty-self-requires c κs = search rules
 
 returns : tie.Need-returns
 unfolding mark_ff_vs_dirty
-returns c = rw (lt-leb c.before.args.bits all_bits c.if1.true)
-
-cast-with-dirty : tie.Need-overflow-cast-with-dirty
-cast-with-dirty c = search rules
-
-with-dirty-requires : tie.Need-with-dirty-requires
-with-dirty-requires c κs = search rules
-
-returns-2 : tie.Need-returns-2
-unfolding mark_ff_vs_dirty
-returns-2 c =
-    rw (le-leb c.before.before.args.bits all_bits c.before.if1.false)
-    (ap (λ (t : FfState). record { answer = Accepted; state = t }) c.with-dirty.ensures)
+returns c =
+    rw (le-leb c.before.before.args.bits all_bits c.before.if-bits.false)
+    (ap (λ (t : FfState). record { answer = Accepted; state = t }) c.with_dirty-self.ensures)
 
 pub mark_ff_vs_dirty_spec : {M : Type 1} → statement M
 mark_ff_vs_dirty_spec =
-    tie.close (tie.spec cast-if1 returns cast-with-dirty with-dirty-requires returns-2)
+    tie.close (tie.spec
+    overflow_cast-t-3
+    returns-then-bits
+    overflow_cast-bits
+    with_dirty-self-requires
+    returns)

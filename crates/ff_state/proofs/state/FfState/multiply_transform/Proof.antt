@@ -9,61 +9,61 @@ use borrow.Author.Rules.{rules}
 use Rattle.ff_state.proofs.state.FfState.multiply_transform.Statement.{statement}
 use Rattle.ff_state.proofs.state.FfState.multiply_transform.Tie as tie
 
-slot-of-requires : tie.Need-slot-of-requires
-slot-of-requires c κs = search rules
+slot_of-requires : tie.Need-slot_of-requires
+slot_of-requires c κs = search rules
 
-enum-known-place : tie.Need-enum-known-place
-enum-known-place c = search rules
+enum_known-place : tie.Need-enum_known-place
+enum_known-place c = search rules
 
-enum_told : tie.Need-enum-told
-enum_told c = search rules
+enum_told-1 : tie.Need-enum_told-1
+enum_told-1 c = search rules
+
+returns-in_default : tie.Need-returns-in_default
+unfolding multiply_transform change_at
+returns-in_default c = rw (← c.slot_of.ensures, c.in_default.is)
+
+place_matrix-requires : tie.Need-place_matrix-requires
+place_matrix-requires c κs = in-range _ _ (sym c.slot_of.ensures ∙ c.in-At.is)
+
+mat_mul-product-requires : tie.Need-mat_mul-product-requires
+mat_mul-product-requires c κs = search rules
+
+placed_at-self-requires : tie.Need-placed_at-self-requires
+placed_at-self-requires c κs =
+    let at-slot-of = c in
+    in-range _ _ (sym at-slot-of.slot_of.ensures ∙ c.in-At.is)
+
+place_bits-requires : tie.Need-place_bits-requires
+place_bits-requires c κs = search rules
+
+with_dirty-self-requires : tie.Need-with_dirty-self-requires
+with_dirty-self-requires c κs = search rules
 
 returns : tie.Need-returns
 unfolding multiply_transform change_at
-returns c = rw (← c.before.before.slot_of.ensures, c.enum_told.given.1)
-
-place-matrix-requires : tie.Need-place-matrix-requires
-place-matrix-requires c κs = in-range _ _ (sym c.before.before.before.slot_of.ensures ∙ c.before.place.given.1)
-
-mat-mul-requires : tie.Need-mat-mul-requires
-mat-mul-requires c κs = search rules
-
-placed-at-requires : tie.Need-placed-at-requires
-placed-at-requires c κs =
-    let at-slot-of = c.before.before.before.before.before in
-    in-range _ _ (sym at-slot-of.slot_of.ensures ∙ c.before.before.before.place.given.1)
-
-place-bits-requires : tie.Need-place-bits-requires
-place-bits-requires c κs = search rules
-
-with-dirty-requires : tie.Need-with-dirty-requires
-with-dirty-requires c κs = search rules
-
-returns-2 : tie.Need-returns-2
-unfolding multiply_transform change_at
-returns-2 c =
-    let product = c.before.before.before in
-    let known = product.before.before in
-    let at = known.before.before.before in
-    let p = known.before.place.given.0.0 in
-    rw (← at.slot_of.ensures, known.before.place.given.1)
+returns c =
+    let product = c in
+    let known = product in
+    let at = known in
+    let p = known.in-At.place in
+    rw (← at.slot_of.ensures, known.in-At.is)
     (ap accepted
-    (c.with-dirty.ensures
+    (c.with_dirty-self.ensures
     ∙ ap₂ dirtied
-    (c.before.before.placed_at_lem.ensures ∙ ap (λ (m : D3DMATRIX). placed at.before.args.self p m) (product.mat-mul.ensures ∙ ap (mat_mul at.before.args.m) product.before.place-matrix.ensures))
-    c.before.place-bits.ensures))
+    (c.placed_at-self.ensures ∙ ap (λ (m : D3DMATRIX). placed at.args.self p m) (product.mat_mul-product.ensures ∙ ap (mat_mul at.args.m) product.place_matrix.ensures))
+    c.place_bits.ensures))
 
 pub multiply_transform_spec : {M : Type 1} → statement M
 multiply_transform_spec =
     tie.close
     (tie.spec
-    slot-of-requires
-    enum-known-place
-    enum_told
-    returns
-    place-matrix-requires
-    mat-mul-requires
-    placed-at-requires
-    place-bits-requires
-    with-dirty-requires
-    returns-2)
+    slot_of-requires
+    enum_known-place
+    enum_told-1
+    returns-in_default
+    place_matrix-requires
+    mat_mul-product-requires
+    placed_at-self-requires
+    place_bits-requires
+    with_dirty-self-requires
+    returns)

@@ -4,12 +4,14 @@ use Rattle.ff_state.specs.RenderStates.{set_ambient}
 use Rattle.ff_state.proofs.state.FfState.set_ambient.Statement.{statement}
 use Rattle.ff_state.proofs.state.FfState.set_ambient.Tie as tie
 
-with-dirty-requires : tie.Need-with-dirty-requires
-with-dirty-requires c κs = search rules
+with_dirty-requires : tie.Need-with_dirty-requires
+with_dirty-requires c κs = search rules
 
 returns : tie.Need-returns
 unfolding set_ambient
-returns c = c.with-dirty.ensures
+returns c = c.with_dirty.ensures
 
 pub set_ambient_spec : {M : Type 1} → statement M
-set_ambient_spec = tie.close (tie.spec with-dirty-requires returns)
+set_ambient_spec = tie.close (tie.spec
+    with_dirty-requires
+    returns)

@@ -4,12 +4,14 @@ use Rattle.ff_state.specs.RenderStates.{set_fog_start}
 use Rattle.ff_state.proofs.state.FfState.set_fog_start.Statement.{statement}
 use Rattle.ff_state.proofs.state.FfState.set_fog_start.Tie as tie
 
-with-dirty-requires : tie.Need-with-dirty-requires
-with-dirty-requires c κs = search rules
+with_dirty-requires : tie.Need-with_dirty-requires
+with_dirty-requires c κs = search rules
 
 returns : tie.Need-returns
 unfolding set_fog_start
-returns c = c.with-dirty.ensures
+returns c = c.with_dirty.ensures
 
 pub set_fog_start_spec : {M : Type 1} → statement M
-set_fog_start_spec = tie.close (tie.spec with-dirty-requires returns)
+set_fog_start_spec = tie.close (tie.spec
+    with_dirty-requires
+    returns)

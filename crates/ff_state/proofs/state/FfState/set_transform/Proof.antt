@@ -7,45 +7,45 @@ use Rattle.ff_state.proofs.Places.{in-range, accepted}
 use Rattle.ff_state.proofs.state.FfState.set_transform.Statement.{statement}
 use Rattle.ff_state.proofs.state.FfState.set_transform.Tie as tie
 
-slot-of-requires : tie.Need-slot-of-requires
-slot-of-requires c κs = search rules
+slot_of-requires : tie.Need-slot_of-requires
+slot_of-requires c κs = search rules
 
-enum-known-place : tie.Need-enum-known-place
-enum-known-place c = search rules
+enum_known-place : tie.Need-enum_known-place
+enum_known-place c = search rules
 
-enum_told : tie.Need-enum-told
-enum_told c = search rules
+enum_told-1 : tie.Need-enum_told-1
+enum_told-1 c = search rules
+
+returns-in_default : tie.Need-returns-in_default
+unfolding set_transform change_at
+returns-in_default c = rw (← c.slot_of.ensures, c.in_default.is)
+
+placed_at-self-requires : tie.Need-placed_at-self-requires
+placed_at-self-requires c κs = in-range _ _ (sym c.slot_of.ensures ∙ c.in-At.is)
+
+place_bits-requires : tie.Need-place_bits-requires
+place_bits-requires c κs = search rules
+
+with_dirty-self-requires : tie.Need-with_dirty-self-requires
+with_dirty-self-requires c κs = search rules
 
 returns : tie.Need-returns
 unfolding set_transform change_at
-returns c = rw (← c.before.before.slot_of.ensures, c.enum_told.given.1)
-
-placed-at-requires : tie.Need-placed-at-requires
-placed-at-requires c κs = in-range _ _ (sym c.before.before.before.slot_of.ensures ∙ c.before.place.given.1)
-
-place-bits-requires : tie.Need-place-bits-requires
-place-bits-requires c κs = search rules
-
-with-dirty-requires : tie.Need-with-dirty-requires
-with-dirty-requires c κs = search rules
-
-returns-2 : tie.Need-returns-2
-unfolding set_transform change_at
-returns-2 c =
-    let known = c.before.before.before in
-    let at = known.before.before.before in
-    rw (← at.slot_of.ensures, known.before.place.given.1)
-    (ap accepted (c.with-dirty.ensures ∙ ap₂ dirtied c.before.before.placed_at_lem.ensures c.before.place-bits.ensures))
+returns c =
+    let known = c in
+    let at = known in
+    rw (← at.slot_of.ensures, known.in-At.is)
+    (ap accepted (c.with_dirty-self.ensures ∙ ap₂ dirtied c.placed_at-self.ensures c.place_bits.ensures))
 
 pub set_transform_spec : {M : Type 1} → statement M
 set_transform_spec =
     tie.close
     (tie.spec
-    slot-of-requires
-    enum-known-place
-    enum_told
-    returns
-    placed-at-requires
-    place-bits-requires
-    with-dirty-requires
-    returns-2)
+    slot_of-requires
+    enum_known-place
+    enum_told-1
+    returns-in_default
+    placed_at-self-requires
+    place_bits-requires
+    with_dirty-self-requires
+    returns)

@@ -7,29 +7,35 @@ use borrow.Author.Rules.{rules}
 use Rattle.ff_state.proofs.state.FfState.transform.Statement.{statement}
 use Rattle.ff_state.proofs.state.FfState.transform.Tie as tie
 
-slot-of-requires : tie.Need-slot-of-requires
-slot-of-requires c κs = search rules
+slot_of-requires : tie.Need-slot_of-requires
+slot_of-requires c κs = search rules
 
-enum-known-place : tie.Need-enum-known-place
-enum-known-place c = search rules
+enum_known-place : tie.Need-enum_known-place
+enum_known-place c = search rules
 
-enum_told : tie.Need-enum-told
-enum_told c = search rules
+enum_told-1 : tie.Need-enum_told-1
+enum_told-1 c = search rules
+
+returns-in_default : tie.Need-returns-in_default
+unfolding transform_of read_at
+returns-in_default c = rw (← c.slot_of.ensures, c.in_default.is)
+
+place_matrix-requires : tie.Need-place_matrix-requires
+place_matrix-requires c κs = in-range _ _ (sym c.slot_of.ensures ∙ c.in-At.is)
 
 returns : tie.Need-returns
 unfolding transform_of read_at
-returns c = rw (← c.before.before.slot_of.ensures, c.enum_told.given.1)
-
-place-matrix-requires : tie.Need-place-matrix-requires
-place-matrix-requires c κs = in-range _ _ (sym c.before.before.before.slot_of.ensures ∙ c.before.place.given.1)
-
-returns-2 : tie.Need-returns-2
-unfolding transform_of read_at
-returns-2 c =
-    let known = c.before in
-    rw (← known.before.before.before.slot_of.ensures, known.before.place.given.1) (ap Matrix c.place-matrix.ensures)
+returns c =
+    let known = c in
+    rw (← known.slot_of.ensures, known.in-At.is) (ap Matrix c.place_matrix.ensures)
 
 pub transform_spec : {M : Type 1} → statement M
 transform_spec =
     tie.close
-    (tie.spec slot-of-requires enum-known-place enum_told returns place-matrix-requires returns-2)
+    (tie.spec
+    slot_of-requires
+    enum_known-place
+    enum_told-1
+    returns-in_default
+    place_matrix-requires
+    returns)

@@ -9,12 +9,15 @@ use Rattle.ff_state.proofs.state.FfState.world_palette_used.Tie as tie
 wide16-requires : tie.Need-wide16-requires
 wide16-requires c κs = search rules
 
-add-result : tie.Need-overflow-add-result
-add-result c = search rules
+overflow_add-result : tie.Need-overflow_add-result
+overflow_add-result c = search rules
 
 returns : tie.Need-returns
 unfolding world_palette_used
 returns c = ap (λ (n : ℕ). n + 1) c.wide16.ensures.0
 
 pub world_palette_used_spec : {M : Type 1} → statement M
-world_palette_used_spec = tie.close (tie.spec wide16-requires add-result returns)
+world_palette_used_spec = tie.close (tie.spec
+    wide16-requires
+    overflow_add-result
+    returns)

@@ -7,21 +7,25 @@ use Rattle.ff_state.specs.Transforms.{world_view_projection}
 use Rattle.ff_state.proofs.state.FfState.world_view_projection.Statement.{statement}
 use Rattle.ff_state.proofs.state.FfState.world_view_projection.Tie as tie
 
-array-copy-out-mat-mul : tie.Need-array-copy-out-mat-mul
-array-copy-out-mat-mul c = search rules
+bounds-palette-0 : tie.Need-bounds-palette-0
+bounds-palette-0 c = search rules
 
-mat-mul-requires : tie.Need-mat-mul-requires
-mat-mul-requires c κs = search rules
+mat_mul-requires : tie.Need-mat_mul-requires
+mat_mul-requires c κs = search rules
 
-mat-mul-requires-2 : tie.Need-mat-mul-requires-2
-mat-mul-requires-2 c κs = search rules
+mat_mul-requires-2 : tie.Need-mat_mul-requires-2
+mat_mul-requires-2 c κs = search rules
 
 returns : tie.Need-returns
 unfolding world_view_projection
 returns c =
     let entry = c.before.before.before.before in
-    c.mat-mul2.ensures ∙ ap (λ (m : D3DMATRIX). mat_mul m entry.args.self.projection) c.before.mat-mul.ensures
+    c.mat_mul-2.ensures ∙ ap (λ (m : D3DMATRIX). mat_mul m entry.args.self.projection) c.before.mat_mul.ensures
 
 pub world_view_projection_spec : {M : Type 1} → statement M
 world_view_projection_spec =
-    tie.close (tie.spec array-copy-out-mat-mul mat-mul-requires mat-mul-requires-2 returns)
+    tie.close (tie.spec
+    bounds-palette-0
+    mat_mul-requires
+    mat_mul-requires-2
+    returns)
