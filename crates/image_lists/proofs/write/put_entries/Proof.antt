@@ -44,7 +44,7 @@ loop-i-preserved c =
     let put = c.before.before in
     let l = put.before.before.before.before in
     let a = l.before.before.args in
-    goes_on entry_bytes 56 a.at a.entries a.dst.now 112 length-entry_bytes l.loop-i.i _ l.loop-i.dst _ l.before.before.requires l.loop-i.invariant (omega arith) put.put_entry.auto.0 put.put_entry.ensures
+    goes_on entry_bytes 56 a.at a.entries a.dst.now 112 length-entry_bytes l.loop-i.i _ l.loop-i.dst _ l.before.before.requires l.loop-i.invariant (omega arith) put.put_entry.auto.dst put.put_entry.ensures
 
 shape_of-dst : tie.Need-shape_of-dst invariant-loop-i decreases-loop-i
 shape_of-dst c = search rules

@@ -44,7 +44,7 @@ loop-i-preserved c =
     let put = c.before.before in
     let l = put.before.before.before.before in
     let a = l.before.before.args in
-    goes_on light_bytes 8 a.at a.lights a.dst.now 104 length-light_bytes l.loop-i.i _ l.loop-i.dst _ l.before.before.requires l.loop-i.invariant (omega arith) put.put_light.auto.0 put.put_light.ensures
+    goes_on light_bytes 8 a.at a.lights a.dst.now 104 length-light_bytes l.loop-i.i _ l.loop-i.dst _ l.before.before.requires l.loop-i.invariant (omega arith) put.put_light.auto.dst put.put_light.ensures
 
 shape_of-dst : tie.Need-shape_of-dst invariant-loop-i decreases-loop-i
 shape_of-dst c = search rules

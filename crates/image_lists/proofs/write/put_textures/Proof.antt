@@ -44,7 +44,7 @@ loop-i-preserved c =
     let put = c.before.before in
     let l = put.before.before.before.before in
     let a = l.before.before.args in
-    goes_on matrix_bytes 8 a.at a.ms a.dst.now 64 length-matrix_bytes l.loop-i.i _ l.loop-i.dst _ l.before.before.requires l.loop-i.invariant (omega arith) put.put_matrix.auto.0 put.put_matrix.ensures
+    goes_on matrix_bytes 8 a.at a.ms a.dst.now 64 length-matrix_bytes l.loop-i.i _ l.loop-i.dst _ l.before.before.requires l.loop-i.invariant (omega arith) put.put_matrix.auto.dst put.put_matrix.ensures
 
 shape_of-dst : tie.Need-shape_of-dst invariant-loop-i decreases-loop-i
 shape_of-dst c = search rules

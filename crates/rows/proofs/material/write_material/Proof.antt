@@ -62,13 +62,13 @@ returns-then-not-lit c =
     let test = wrote.before.before.before in
     let a = test.before.before.args in
     rw (wrote.write_row.ensures, wrote.before.color_row.ensures)
-    (unlit a.lit a.specular a.m a.dst.now test.before.before.requires (not-true a.lit test.if-not-lit.true))
+    (unlit a.lit a.specular a.m a.dst.now test.before.before.requires test.if-not-lit.true)
 
 write_colors-requires : tie.Need-write_colors-requires
 write_colors-requires c κs =
     let test = c.before in
     let a = test.before.before.args in
-    least-lit a.lit a.specular a.m a.dst.now test.before.before.requires (not-false a.lit test.if-not-lit.false)
+    least-lit a.lit a.specular a.m a.dst.now test.before.before.requires test.if-not-lit.false
 
 shape_of-dst-then-not-specular : tie.Need-shape_of-dst-then-not-specular
 shape_of-dst-then-not-specular c = search rules
@@ -79,14 +79,14 @@ returns-then-not-specular c =
     let test = wrote.before.before in
     let a = test.before.before.args in
     rw wrote.write_colors.ensures
-    (matte a.lit a.specular a.m a.dst.now test.before.before.requires (not-false a.lit test.if-not-lit.false) (not-true a.specular c.if-not-specular.true))
+    (matte a.lit a.specular a.m a.dst.now test.before.before.requires test.if-not-lit.false c.if-not-specular.true)
 
 write_row-requires-2 : tie.Need-write_row-requires-2
 write_row-requires-2 c κs =
     let wrote = c.before.before.before.before in
     let test = wrote.before.before in
     let a = test.before.before.args in
-    omega (arith, wrote.write_colors.auto.0, least-specular a.lit a.specular a.m a.dst.now test.before.before.requires (not-false a.lit test.if-not-lit.false) (not-false a.specular c.before.if-not-specular.false))
+    omega (arith, wrote.write_colors.auto.dst, least-specular a.lit a.specular a.m a.dst.now test.before.before.requires test.if-not-lit.false c.before.if-not-specular.false)
 
 shape_of-dst : tie.Need-shape_of-dst
 shape_of-dst c = search rules
@@ -100,7 +100,7 @@ returns c =
     let test = wrote.before.before in
     let a = test.before.before.args in
     rw (last.write_row-2.ensures, wrote.write_colors.ensures)
-    (shiny a.lit a.specular a.m a.dst.now test.before.before.requires (not-false a.lit test.if-not-lit.false) (not-false a.specular lit.if-not-specular.false))
+    (shiny a.lit a.specular a.m a.dst.now test.before.before.requires test.if-not-lit.false lit.if-not-specular.false)
 
 pub write_material_spec : {M : Type 1} → statement M
 write_material_spec =
