@@ -11,46 +11,46 @@ use Rattle.light_table.proofs.Compaction.{listed_len, listed_front}
 use Rattle.ff_lights.proofs.active.compacted_light_masks.Statement.{statement}
 use Rattle.ff_lights.proofs.active.compacted_light_masks.Tie as tie
 
-active-lights-requires : tie.Need-active-lights-requires
-active-lights-requires c κs = search rules
+active_lights-list-requires : tie.Need-active_lights-list-requires
+active_lights-list-requires c κs = search rules
 
 -- the list has at most eight lights, which stand in front
-few : (c : tie.After-active-lights) → c.active-lights.result.len ≤ 8
+few : (c : tie.After-active_lights-list) → c.active_lights-list.result.len ≤ 8
 unfolding resolve_active_lights active_lights light_active_mask
-few c = subst (λ (a : ActiveLights). a.len ≤ 8) (sym c.active-lights.ensures) (listed_len 8 (le_refl 8) (active_lights c.before.before.before.before.args.s))
+few c = subst (λ (a : ActiveLights). a.len ≤ 8) (sym c.active_lights-list.ensures) (listed_len 8 (le_refl 8) (active_lights c.before.before.before.before.args.s))
 
-front : (c : tie.After-active-lights) → take c.active-lights.result.len c.active-lights.result.lights ≡ take 8 (active_lights c.before.before.before.before.args.s)
+front : (c : tie.After-active_lights-list) → take c.active_lights-list.result.len c.active_lights-list.result.lights ≡ take 8 (active_lights c.before.before.before.before.args.s)
 unfolding resolve_active_lights active_lights light_active_mask
-front c = ap (λ (a : ActiveLights). take a.len a.lights) c.active-lights.ensures ∙ listed_front 8 (active_lights c.before.before.before.before.args.s)
+front c = ap (λ (a : ActiveLights). take a.len a.lights) c.active_lights-list.ensures ∙ listed_front 8 (active_lights c.before.before.before.before.args.s)
 
-counted : (c : tie.After-active-lights) → c.active-lights.result.len ≡ length (take 8 (active_lights c.before.before.before.before.args.s))
+counted : (c : tie.After-active_lights-list) → c.active_lights-list.result.len ≡ length (take 8 (active_lights c.before.before.before.before.args.s))
 unfolding resolve_active_lights active_lights light_active_mask listed
-counted c = ap (λ (a : ActiveLights). a.len) c.active-lights.ensures
+counted c = ap (λ (a : ActiveLights). a.len) c.active_lights-list.ensures
 
-low-bits-requires : tie.Need-low-bits-requires
-low-bits-requires c κs = few c
+low_bits-requires : tie.Need-low_bits-requires
+low_bits-requires c κs = few c
 
-kind-mask-requires : tie.Need-kind-mask-requires
-kind-mask-requires c κs = few c.before
+kind_mask-requires : tie.Need-kind_mask-requires
+kind_mask-requires c κs = few c.before
 
-kind-mask-requires-2 : tie.Need-kind-mask-requires-2
-kind-mask-requires-2 c κs = few c.before.before
+kind_mask-requires-2 : tie.Need-kind_mask-requires-2
+kind_mask-requires-2 c κs = few c.before.before
 
 returns : tie.Need-returns
 unfolding compacted_light_masks masks_of
 returns c =
     let at = c.before.before.before in
-    let p = c.before.before.low-bits.ensures ∙ ap low_bits (counted at) in
-    let q = c.before.kind-mask.ensures ∙ ap (kind_mask 3) (front at) in
-    let r = c.kind-mask2.ensures ∙ ap (kind_mask 2) (front at) in
+    let p = c.before.before.low_bits.ensures ∙ ap low_bits (counted at) in
+    let q = c.before.kind_mask.ensures ∙ ap (kind_mask 3) (front at) in
+    let r = c.kind_mask-2.ensures ∙ ap (kind_mask 2) (front at) in
     λ i. record { active = p i; directional = q i; spot = r i }
 
 pub compacted_light_masks_spec : {M : Type 1} → statement M
 compacted_light_masks_spec =
     tie.close
     (tie.spec
-    active-lights-requires
-    low-bits-requires
-    kind-mask-requires
-    kind-mask-requires-2
+    active_lights-list-requires
+    low_bits-requires
+    kind_mask-requires
+    kind_mask-requires-2
     returns)

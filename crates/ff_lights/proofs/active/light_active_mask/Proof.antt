@@ -9,4 +9,5 @@ unfolding light_active_mask
 returns c = refl
 
 pub light_active_mask_spec : {M : Type 1} → statement M
-light_active_mask_spec = tie.close (tie.spec returns)
+light_active_mask_spec = tie.close (tie.spec
+    returns)

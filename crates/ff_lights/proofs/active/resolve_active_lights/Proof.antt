@@ -19,32 +19,37 @@ slots_alone s limit h none =
     ap (λ (n : ℕ). push_all limit (push_all limit no_lights (active_slots (light_active_mask s) s.lights)) (active_overflow (used_entries s.overflow_lights n))) (sym none)
     ∙ pushed_two limit h (active_slots (light_active_mask s) s.lights) (active_overflow (used s))
 
-light-limit-requires : tie.Need-light-limit-requires
-light-limit-requires c κs = search rules
+light_limit-limit-requires : tie.Need-light_limit-limit-requires
+light_limit-limit-requires c κs = search rules
 
 -- the key's limit is at most eight
-small : (c : tie.After-light-limit) → c.light-limit.result ≤ 8
-small c = subst (λ (n : ℕ). n ≤ 8) (sym c.light-limit.ensures) (limit_small c.before.args.key)
+small : (c : tie.After-light_limit-limit) → c.light_limit-limit.result ≤ 8
+small c = subst (λ (n : ℕ). n ≤ 8) (sym c.light_limit-limit.ensures) (limit_small c.before.args.key)
 
-push-slots-requires : tie.Need-push-slots-requires
-push-slots-requires c κs = small c.before.before.before.before
+push_slots-requires : tie.Need-push_slots-requires
+push_slots-requires c κs = small c.before.before.before.before
 
-returns : tie.Need-returns
+returns-then-s-eq0 : tie.Need-returns-then-s-eq0
 unfolding light_active_mask
-returns c =
+returns-then-s-eq0 c =
     let tested = c.before in
     let limited = tested.before.before.before.before in
     let s = limited.before.args.s in
-    c.push-slots.ensures ∙ slots_alone s _ (small limited) tested.if1.true ∙ ap (resolve_active_lights s) limited.light-limit.ensures
+    c.push_slots.ensures ∙ slots_alone s _ (small limited) tested.if-s-eq0.true ∙ ap (resolve_active_lights s) limited.light_limit-limit.ensures
 
-active-lights-requires : tie.Need-active-lights-requires
-active-lights-requires c κs = small c.before.before.before.before.before
+active_lights-requires : tie.Need-active_lights-requires
+active_lights-requires c κs = small c.before.before.before.before.before
 
-returns-2 : tie.Need-returns-2
+returns : tie.Need-returns
 unfolding resolve_active_lights active_lights light_active_mask
-returns-2 c =
+returns c =
     let limited = c.before.before.before.before.before.before in
-    c.active-lights.ensures ∙ ap (resolve_active_lights limited.before.args.s) limited.light-limit.ensures
+    c.active_lights.ensures ∙ ap (resolve_active_lights limited.before.args.s) limited.light_limit-limit.ensures
 
 pub resolve_active_lights_spec : {M : Type 1} → statement M
-resolve_active_lights_spec = tie.close (tie.spec light-limit-requires push-slots-requires returns active-lights-requires returns-2)
+resolve_active_lights_spec = tie.close (tie.spec
+    light_limit-limit-requires
+    push_slots-requires
+    returns-then-s-eq0
+    active_lights-requires
+    returns)

@@ -8,31 +8,31 @@ use borrow.Author.Rules.{rules}
 use Rattle.ff_lights.proofs.active.vs_source_light_inputs.Statement.{statement}
 use Rattle.ff_lights.proofs.active.vs_source_light_inputs.Tie as tie
 
-four-bytes-requires : tie.Need-four-bytes-requires
-four-bytes-requires c κs = search rules
+four_bytes-requires : tie.Need-four_bytes-requires
+four_bytes-requires c κs = search rules
+
+returns-then-s-eq0 : tie.Need-returns-then-s-eq0
+unfolding vs_source_light_inputs light_active_mask
+returns-then-s-eq0 c = rw (eq-eqb _ 0 c.before.before.before.before.if-s-eq0.true) c.four_bytes.ensures
+
+compacted_light_masks-masks-requires : tie.Need-compacted_light_masks-masks-requires
+compacted_light_masks-masks-requires c κs = search rules
+
+four_bytes-requires-2 : tie.Need-four_bytes-requires-2
+four_bytes-requires-2 c κs = search rules
 
 returns : tie.Need-returns
-unfolding vs_source_light_inputs light_active_mask
-returns c = rw (eq-eqb _ 0 c.before.before.before.before.if1.true) c.four_bytes.ensures
-
-compacted-light-masks-requires : tie.Need-compacted-light-masks-requires
-compacted-light-masks-requires c κs = search rules
-
-four-bytes-requires-2 : tie.Need-four-bytes-requires-2
-four-bytes-requires-2 c κs = search rules
-
-returns-2 : tie.Need-returns-2
 unfolding vs_source_light_inputs
-returns-2 c =
-    rw (ne_eqb _ 0 c.before.before.if1.false)
-    (c.four-bytes2.ensures ∙ ap (λ (m : LightMasks). four_bytes m.active m.directional m.spot 1) c.before.compacted-light-masks.ensures)
+returns c =
+    rw (ne_eqb _ 0 c.before.before.if-s-eq0.false)
+    (c.four_bytes-2.ensures ∙ ap (λ (m : LightMasks). four_bytes m.active m.directional m.spot 1) c.before.compacted_light_masks-masks.ensures)
 
 pub vs_source_light_inputs_spec : {M : Type 1} → statement M
 vs_source_light_inputs_spec =
     tie.close
     (tie.spec
-    four-bytes-requires
-    returns
-    compacted-light-masks-requires
-    four-bytes-requires-2
-    returns-2)
+    four_bytes-requires
+    returns-then-s-eq0
+    compacted_light_masks-masks-requires
+    four_bytes-requires-2
+    returns)

@@ -15,70 +15,70 @@ use Rattle.ff_state.proofs.Found.{searched, place-below, entry-there}
 use Rattle.ff_lights.proofs.lights.get_light_at.Statement.{statement}
 use Rattle.ff_lights.proofs.lights.get_light_at.Tie as tie
 
-has-bit-requires : tie.Need-has-bit-requires
-has-bit-requires c κs = search rules
+has_bit-requires : tie.Need-has_bit-requires
+has_bit-requires c κs = search rules
 
-mul-light : tie.Need-overflow-mul-light
-mul-light c = search rules
+offset_bounds-lights-i : tie.Need-offset_bounds-lights-i
+offset_bounds-lights-i c = search rules
 
-array-copy-out-light : tie.Need-array-copy-out-light
-array-copy-out-light c = search rules
+bounds-lights-i : tie.Need-bounds-lights-i
+bounds-lights-i c = search rules
 
 eight : (c : tie.Start) → length c.args.s.lights ≡ 8
-eight c = sym (length-map c.args.s.lights _) ∙ c.well-formed.0.1.1.1.1.1.1.1.1.0.1.0.1
+eight c = c.well_formed.0.1.1.1.1.1.1.1.1.0.1.0.1
 
-returns : tie.Need-returns
+returns-then-has_bit : tie.Need-returns-then-has_bit
 unfolding get_light_at
-returns c =
+returns-then-has_bit c =
     let set = c.before.before in
     let low = set.before.before in
     let a = low.before.args in
-    rw (lt-ltb _ 8 low.if1.true, ← set.before.has-bit.ensures, set.if2.true)
-    (ap Light (get_d_default a.s.lights a.index _ default_light (omega (arith, eight low.before, low.if1.true))))
+    rw (lt-ltb _ 8 low.if-index-lt8.true, ← set.before.has_bit.ensures, set.if-has_bit.true)
+    (ap Light (get_d_default a.s.lights a.index _ default_light (omega (arith, eight low.before, low.if-index-lt8.true))))
 
-returns-2 : tie.Need-returns-2
+returns-then-index-lt8 : tie.Need-returns-then-index-lt8
 unfolding get_light_at
-returns-2 c = rw (lt-ltb _ 8 c.before.before.if1.true, ← c.before.has-bit.ensures, c.if2.false)
+returns-then-index-lt8 c = rw (lt-ltb _ 8 c.before.before.if-index-lt8.true, ← c.before.has_bit.ensures, c.if-has_bit.false)
 
-used-count-requires : tie.Need-used-count-requires
-used-count-requires c κs = search rules
+used_count-requires : tie.Need-used_count-requires
+used_count-requires c κs = search rules
 
-find-requires : tie.Need-find-requires
-find-requires c κs = used_most _ _ c.used-count.ensures
+find-found-requires : tie.Need-find-found-requires
+find-found-requires c κs = used_most _ _ c.used_count.ensures
 
-is_found : (c : tie.After-find) → c.find.result ≡ found c.before.before.before.before.args.s c.before.before.before.before.args.index
-is_found c = searched _ _ c.before.used-count.result c.find.result c.before.used-count.ensures c.find.ensures
+is_found : (c : tie.After-find-found) → c.find-found.result ≡ found c.before.before.before.before.args.s c.before.before.before.before.args.index
+is_found c = searched _ _ c.before.used_count.result c.find-found.result c.before.used_count.ensures c.find-found.ensures
 
-mul-e : tie.Need-overflow-mul-e
-mul-e c = omega (arith, place-below _ _ c.before.find.result (is_found c.before) c.if3.true)
+offset_bounds-entries-at : tie.Need-offset_bounds-entries-at
+offset_bounds-entries-at c = omega (arith, place-below _ _ c.before.find-found.result (is_found c.before) c.if-found.true)
 
-array-copy-out-e : tie.Need-array-copy-out-e
-array-copy-out-e c = place-below _ _ c.before.find.result (is_found c.before) c.if3.true
+bounds-entries-at : tie.Need-bounds-entries-at
+bounds-entries-at c = place-below _ _ c.before.find-found.result (is_found c.before) c.if-found.true
 
-returns-3 : tie.Need-returns-3
+returns-then-found : tie.Need-returns-then-found
 unfolding get_light_at
-returns-3 c =
+returns-then-found c =
     let test = c.before.before in
     let at = test.before in
-    rw (le-ltb _ 8 at.before.before.before.if1.false, ← is_found at, test.if3.true)
-    (ap (λ (e : OverflowLight). Light e.light) (entry-there _ _ at.find.result (is_found at) test.if3.true _))
+    rw (le-ltb _ 8 at.before.before.before.if-index-lt8.false, ← is_found at, test.if-found.true)
+    (ap (λ (e : OverflowLight). Light e.light) (entry-there _ _ at.find-found.result (is_found at) test.if-found.true _))
 
-returns-4 : tie.Need-returns-4
+returns : tie.Need-returns
 unfolding get_light_at
-returns-4 c = rw (le-ltb _ 8 c.before.before.before.before.if1.false, ← is_found c.before, c.if3.false)
+returns c = rw (le-ltb _ 8 c.before.before.before.before.if-index-lt8.false, ← is_found c.before, c.if-found.false)
 
 pub get_light_at_spec : {M : Type 1} → statement M
 get_light_at_spec =
     tie.close
     (tie.spec
-    has-bit-requires
-    mul-light
-    array-copy-out-light
-    returns
-    returns-2
-    used-count-requires
-    find-requires
-    mul-e
-    array-copy-out-e
-    returns-3
-    returns-4)
+    has_bit-requires
+    offset_bounds-lights-i
+    bounds-lights-i
+    returns-then-has_bit
+    returns-then-index-lt8
+    used_count-requires
+    find-found-requires
+    offset_bounds-entries-at
+    bounds-entries-at
+    returns-then-found
+    returns)

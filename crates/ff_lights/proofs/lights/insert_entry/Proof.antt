@@ -12,52 +12,52 @@ use Rattle.ff_lights.proofs.lights.Change.{accepted}
 use Rattle.ff_lights.proofs.lights.insert_entry.Statement.{statement}
 use Rattle.ff_lights.proofs.lights.insert_entry.Tie as tie
 
-used-count-requires : tie.Need-used-count-requires
-used-count-requires c κs = search rules
+used_count-in_use-requires : tie.Need-used_count-in_use-requires
+used_count-in_use-requires c κs = search rules
 
-inserted-at-requires : tie.Need-inserted-at-requires
-inserted-at-requires c κs = search rules
+inserted_at-grown-requires : tie.Need-inserted_at-grown-requires
+inserted_at-grown-requires c κs = search rules
 
-add-s : tie.Need-overflow-add-s
-add-s c = search rules
+overflow_add-s : tie.Need-overflow_add-s
+overflow_add-s c = search rules
 
-cast-s : tie.Need-overflow-cast-s
-cast-s c = search rules
+overflow_cast-s : tie.Need-overflow_cast-s
+overflow_cast-s c = search rules
 
-with-dirty-requires : tie.Need-with-dirty-requires
-with-dirty-requires c κs = search rules
+with_dirty-s-requires : tie.Need-with_dirty-s-requires
+with_dirty-s-requires c κs = search rules
 
-returns : tie.Need-returns
+returns-then-at-lt56 : tie.Need-returns-then-at-lt56
 unfolding insert_entry
-returns c =
+returns-then-at-lt56 c =
     let room = c.before.before.before in
-    let counted = room.before.before.used-count in
+    let counted = room.before.before.used_count-in_use in
     let s = room.before.before.before.args.s in
-    rw (← counted.ensures, lt-ltb counted.result 56 room.before.if1.true, lt-ltb _ 56 room.if2.true)
-    (ap accepted c.with-dirty.ensures
-    ∙ ap (λ (es : List OverflowLight). in_slot (with_overflow_count (with_overflow_lights s es) (counted.result + 1))) c.before.inserted-at.ensures)
+    rw (← counted.ensures, lt-ltb counted.result 56 room.before.if-in_use-lt56.true, lt-ltb _ 56 room.if-at-lt56.true)
+    (ap accepted c.with_dirty-s.ensures
+    ∙ ap (λ (es : List OverflowLight). in_slot (with_overflow_count (with_overflow_lights s es) (counted.result + 1))) c.before.inserted_at-grown.ensures)
 
-returns-2 : tie.Need-returns-2
+returns-else-at-lt56 : tie.Need-returns-else-at-lt56
 unfolding insert_entry
-returns-2 c =
-    let counted = c.before.before.used-count in
-    rw (← counted.ensures, lt-ltb counted.result 56 c.before.if1.true, le-ltb _ 56 c.if2.false)
+returns-else-at-lt56 c =
+    let counted = c.before.before.used_count-in_use in
+    rw (← counted.ensures, lt-ltb counted.result 56 c.before.if-in_use-lt56.true, le-ltb _ 56 c.if-at-lt56.false)
 
-returns-3 : tie.Need-returns-3
+returns-else-in_use-lt56 : tie.Need-returns-else-in_use-lt56
 unfolding insert_entry
-returns-3 c =
-    let counted = c.before.used-count in
-    rw (← counted.ensures, le-ltb counted.result 56 c.if1.false)
+returns-else-in_use-lt56 c =
+    let counted = c.before.used_count-in_use in
+    rw (← counted.ensures, le-ltb counted.result 56 c.if-in_use-lt56.false)
 
 pub insert_entry_spec : {M : Type 1} → statement M
 insert_entry_spec =
     tie.close
     (tie.spec
-    used-count-requires
-    inserted-at-requires
-    add-s
-    cast-s
-    with-dirty-requires
-    returns
-    returns-2
-    returns-3)
+    used_count-in_use-requires
+    inserted_at-grown-requires
+    overflow_add-s
+    overflow_cast-s
+    with_dirty-s-requires
+    returns-then-at-lt56
+    returns-else-at-lt56
+    returns-else-in_use-lt56)

@@ -10,27 +10,32 @@ use Rattle.ff_state.proofs.Found.{searched}
 use Rattle.ff_lights.proofs.lights.is_light_defined_at.Statement.{statement}
 use Rattle.ff_lights.proofs.lights.is_light_defined_at.Tie as tie
 
-has-bit-requires : tie.Need-has-bit-requires
-has-bit-requires c κs = search rules
+has_bit-requires : tie.Need-has_bit-requires
+has_bit-requires c κs = search rules
+
+returns-then-index-lt8 : tie.Need-returns-then-index-lt8
+unfolding is_light_defined_at
+returns-then-index-lt8 c = rw (lt-ltb _ 8 c.before.if-index-lt8.true) c.has_bit.ensures
+
+used_count-requires : tie.Need-used_count-requires
+used_count-requires c κs = search rules
+
+find-found-requires : tie.Need-find-found-requires
+find-found-requires c κs = used_most _ _ c.used_count.ensures
 
 returns : tie.Need-returns
 unfolding is_light_defined_at
-returns c = rw (lt-ltb _ 8 c.before.if1.true) c.has-bit.ensures
-
-used-count-requires : tie.Need-used-count-requires
-used-count-requires c κs = search rules
-
-find-requires : tie.Need-find-requires
-find-requires c κs = used_most _ _ c.used-count.ensures
-
-returns-2 : tie.Need-returns-2
-unfolding is_light_defined_at
-returns-2 c =
-    let counted = c.before.used-count in
+returns c =
+    let counted = c.before.used_count in
     let test = c.before.before.before in
     let a = test.before.args in
-    rw (le-ltb _ 8 test.if1.false) (ap (λ (f : Found). f.stored) (searched a.s a.index counted.result c.find.result counted.ensures c.find.ensures))
+    rw (le-ltb _ 8 test.if-index-lt8.false) (ap (λ (f : Found). f.stored) (searched a.s a.index counted.result c.find-found.result counted.ensures c.find-found.ensures))
 
 pub is_light_defined_at_spec : {M : Type 1} → statement M
 is_light_defined_at_spec =
-    tie.close (tie.spec has-bit-requires returns used-count-requires find-requires returns-2)
+    tie.close (tie.spec
+    has_bit-requires
+    returns-then-index-lt8
+    used_count-requires
+    find-found-requires
+    returns)

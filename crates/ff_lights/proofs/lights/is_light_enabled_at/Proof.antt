@@ -13,48 +13,48 @@ use Rattle.ff_state.proofs.Found.{searched, place-below, entry-there}
 use Rattle.ff_lights.proofs.lights.is_light_enabled_at.Statement.{statement}
 use Rattle.ff_lights.proofs.lights.is_light_enabled_at.Tie as tie
 
-has-bit-requires : tie.Need-has-bit-requires
-has-bit-requires c κs = search rules
+has_bit-requires : tie.Need-has_bit-requires
+has_bit-requires c κs = search rules
+
+returns-then-index-lt8 : tie.Need-returns-then-index-lt8
+unfolding is_light_enabled_at
+returns-then-index-lt8 c = rw (lt-ltb _ 8 c.before.if-index-lt8.true) c.has_bit.ensures
+
+used_count-requires : tie.Need-used_count-requires
+used_count-requires c κs = search rules
+
+find-found-requires : tie.Need-find-found-requires
+find-found-requires c κs = used_most _ _ c.used_count.ensures
+
+is_found : (c : tie.After-find-found) → c.find-found.result ≡ found c.before.before.before.before.args.s c.before.before.before.before.args.index
+is_found c = searched _ _ c.before.used_count.result c.find-found.result c.before.used_count.ensures c.find-found.ensures
+
+offset_bounds-entries-at : tie.Need-offset_bounds-entries-at
+offset_bounds-entries-at c = omega (arith, place-below _ _ c.before.find-found.result (is_found c.before) c.if-found.true)
+
+bounds-entries-at : tie.Need-bounds-entries-at
+bounds-entries-at c = place-below _ _ c.before.find-found.result (is_found c.before) c.if-found.true
+
+returns-then-found : tie.Need-returns-then-found
+unfolding is_light_enabled_at
+returns-then-found c =
+    let f = c.before.find-found.result in
+    rw (le-ltb _ 8 c.before.before.before.before.if-index-lt8.false, ← is_found c.before, c.if-found.true)
+    (ap (λ (e : OverflowLight). not (eqb e.enabled 0)) (entry-there _ _ f (is_found c.before) c.if-found.true _))
 
 returns : tie.Need-returns
 unfolding is_light_enabled_at
-returns c = rw (lt-ltb _ 8 c.before.if1.true) c.has-bit.ensures
-
-used-count-requires : tie.Need-used-count-requires
-used-count-requires c κs = search rules
-
-find-requires : tie.Need-find-requires
-find-requires c κs = used_most _ _ c.used-count.ensures
-
-is_found : (c : tie.After-find) → c.find.result ≡ found c.before.before.before.before.args.s c.before.before.before.before.args.index
-is_found c = searched _ _ c.before.used-count.result c.find.result c.before.used-count.ensures c.find.ensures
-
-mul-result : tie.Need-overflow-mul-result
-mul-result c = omega (arith, place-below _ _ c.before.find.result (is_found c.before) c.if2.true)
-
-element-copy-out-result : tie.Need-element-copy-out-result
-element-copy-out-result c = place-below _ _ c.before.find.result (is_found c.before) c.if2.true
-
-returns-2 : tie.Need-returns-2
-unfolding is_light_enabled_at
-returns-2 c =
-    let f = c.before.find.result in
-    rw (le-ltb _ 8 c.before.before.before.before.if1.false, ← is_found c.before, c.if2.true)
-    (ap (λ (e : OverflowLight). not (eqb e.enabled 0)) (entry-there _ _ f (is_found c.before) c.if2.true _))
-
-returns-3 : tie.Need-returns-3
-unfolding is_light_enabled_at
-returns-3 c = rw (le-ltb _ 8 c.before.before.before.before.if1.false, ← is_found c.before, c.if2.false)
+returns c = rw (le-ltb _ 8 c.before.before.before.before.if-index-lt8.false, ← is_found c.before, c.if-found.false)
 
 pub is_light_enabled_at_spec : {M : Type 1} → statement M
 is_light_enabled_at_spec =
     tie.close
     (tie.spec
-    has-bit-requires
-    returns
-    used-count-requires
-    find-requires
-    mul-result
-    element-copy-out-result
-    returns-2
-    returns-3)
+    has_bit-requires
+    returns-then-index-lt8
+    used_count-requires
+    find-found-requires
+    offset_bounds-entries-at
+    bounds-entries-at
+    returns-then-found
+    returns)

@@ -7,18 +7,22 @@ use Rattle.ff_lights.proofs.lights.Change.{accepted}
 use Rattle.ff_lights.proofs.lights.replace_entry.Statement.{statement}
 use Rattle.ff_lights.proofs.lights.replace_entry.Tie as tie
 
-mul-e : tie.Need-overflow-mul-e
-mul-e c = search rules
+offset_bounds-t-at : tie.Need-offset_bounds-t-at
+offset_bounds-t-at c = search rules
 
-element-set-from-e : tie.Need-element-set-from-e
-element-set-from-e c = search rules
+bounds-t-at : tie.Need-bounds-t-at
+bounds-t-at c = search rules
 
-with-dirty-requires : tie.Need-with-dirty-requires
-with-dirty-requires c κs = search rules
+with_dirty-requires : tie.Need-with_dirty-requires
+with_dirty-requires c κs = search rules
 
 returns : tie.Need-returns
 unfolding replace_entry
-returns c = ap accepted c.with-dirty.ensures
+returns c = ap accepted c.with_dirty.ensures
 
 pub replace_entry_spec : {M : Type 1} → statement M
-replace_entry_spec = tie.close (tie.spec mul-e element-set-from-e with-dirty-requires returns)
+replace_entry_spec = tie.close (tie.spec
+    offset_bounds-t-at
+    bounds-t-at
+    with_dirty-requires
+    returns)

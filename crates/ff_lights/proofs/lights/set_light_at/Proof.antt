@@ -12,71 +12,71 @@ use Rattle.ff_lights.proofs.lights.Change.{slot_changed, entry-changed, entry-ma
 use Rattle.ff_lights.proofs.lights.set_light_at.Statement.{statement}
 use Rattle.ff_lights.proofs.lights.set_light_at.Tie as tie
 
-set-slot-requires : tie.Need-set-slot-requires
-set-slot-requires c κs = search rules
+set_slot-s-requires : tie.Need-set_slot-s-requires
+set_slot-s-requires c κs = search rules
 
-with-dirty-requires : tie.Need-with-dirty-requires
-with-dirty-requires c κs = search rules
+with_dirty-s-requires : tie.Need-with_dirty-s-requires
+with_dirty-s-requires c κs = search rules
+
+returns-then-index-lt8 : tie.Need-returns-then-index-lt8
+unfolding set_light_at
+returns-then-index-lt8 c =
+    rw (lt-ltb _ 8 c.before.before.if-index-lt8.true)
+    (slot_changed c.with_dirty-s.result c.before.set_slot-s.result _ c.with_dirty-s.ensures c.before.set_slot-s.ensures)
+
+used_count-requires : tie.Need-used_count-requires
+used_count-requires c κs = search rules
+
+find-found-requires : tie.Need-find-found-requires
+find-found-requires c κs = used_most _ _ c.used_count.ensures
+
+is_found : (c : tie.After-find-found) → c.find-found.result ≡ found c.before.before.before.before.args.s c.before.before.before.before.args.index
+is_found c = searched _ _ c.before.used_count.result c.find-found.result c.before.used_count.ensures c.find-found.ensures
+
+offset_bounds-entries-at : tie.Need-offset_bounds-entries-at
+offset_bounds-entries-at c = omega (arith, place-below _ _ c.before.find-found.result (is_found c.before) c.if-found.true)
+
+bounds-entries-at : tie.Need-bounds-entries-at
+bounds-entries-at c = place-below _ _ c.before.find-found.result (is_found c.before) c.if-found.true
+
+replace_entry-requires : tie.Need-replace_entry-requires
+replace_entry-requires c κs =
+    let test = c.before in
+    place-below _ _ test.before.find-found.result (is_found test.before) test.if-found.true
+
+returns-then-found : tie.Need-returns-then-found
+unfolding set_light_at
+returns-then-found c =
+    let test = c.before.before in
+    let at = test.before in
+    let a = at.before.before.before.before.args in
+    rw (le-ltb _ 8 at.before.before.before.if-index-lt8.false)
+    (c.replace_entry.ensures ∙ entry-changed a.s a.index at.find-found.result (is_found at) (λ e. light_entry e.index e.enabled a.light) _ _ test.if-found.true)
+
+insert_entry-requires : tie.Need-insert_entry-requires
+insert_entry-requires c κs = place-most _ _ c.before.find-found.result (is_found c.before)
 
 returns : tie.Need-returns
 unfolding set_light_at
 returns c =
-    rw (lt-ltb _ 8 c.before.before.if1.true)
-    (slot_changed c.with-dirty.result c.before.set-slot.result _ c.with-dirty.ensures c.before.set-slot.ensures)
-
-used-count-requires : tie.Need-used-count-requires
-used-count-requires c κs = search rules
-
-find-requires : tie.Need-find-requires
-find-requires c κs = used_most _ _ c.used-count.ensures
-
-is_found : (c : tie.After-find) → c.find.result ≡ found c.before.before.before.before.args.s c.before.before.before.before.args.index
-is_found c = searched _ _ c.before.used-count.result c.find.result c.before.used-count.ensures c.find.ensures
-
-mul-e : tie.Need-overflow-mul-e
-mul-e c = omega (arith, place-below _ _ c.before.find.result (is_found c.before) c.if2.true)
-
-array-copy-out-e : tie.Need-array-copy-out-e
-array-copy-out-e c = place-below _ _ c.before.find.result (is_found c.before) c.if2.true
-
-replace-entry-requires : tie.Need-replace-entry-requires
-replace-entry-requires c κs =
-    let test = c.before in
-    place-below _ _ test.before.find.result (is_found test.before) test.if2.true
-
-returns-2 : tie.Need-returns-2
-unfolding set_light_at
-returns-2 c =
-    let test = c.before.before in
-    let at = test.before in
-    let a = at.before.before.before.before.args in
-    rw (le-ltb _ 8 at.before.before.before.if1.false)
-    (c.replace-entry.ensures ∙ entry-changed a.s a.index at.find.result (is_found at) (λ e. light_entry e.index e.enabled a.light) _ _ test.if2.true)
-
-insert-entry-requires : tie.Need-insert-entry-requires
-insert-entry-requires c κs = place-most _ _ c.before.find.result (is_found c.before)
-
-returns-3 : tie.Need-returns-3
-unfolding set_light_at
-returns-3 c =
     let test = c.before in
     let at = test.before in
     let a = at.before.before.before.before.args in
-    rw (le-ltb _ 8 at.before.before.before.if1.false)
-    (c.insert_entry.ensures ∙ entry-made a.s a.index at.find.result (is_found at) _ (light_entry a.index 0 a.light) test.if2.false)
+    rw (le-ltb _ 8 at.before.before.before.if-index-lt8.false)
+    (c.insert_entry.ensures ∙ entry-made a.s a.index at.find-found.result (is_found at) _ (light_entry a.index 0 a.light) test.if-found.false)
 
 pub set_light_at_spec : {M : Type 1} → statement M
 set_light_at_spec =
     tie.close
     (tie.spec
-    set-slot-requires
-    with-dirty-requires
-    returns
-    used-count-requires
-    find-requires
-    mul-e
-    array-copy-out-e
-    replace-entry-requires
-    returns-2
-    insert-entry-requires
-    returns-3)
+    set_slot-s-requires
+    with_dirty-s-requires
+    returns-then-index-lt8
+    used_count-requires
+    find-found-requires
+    offset_bounds-entries-at
+    bounds-entries-at
+    replace_entry-requires
+    returns-then-found
+    insert_entry-requires
+    returns)

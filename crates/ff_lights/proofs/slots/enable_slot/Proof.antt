@@ -10,22 +10,26 @@ use Rattle.ff_state.specs.declared.state.FfState.{FfState}
 use Rattle.ff_lights.proofs.slots.enable_slot.Statement.{statement}
 use Rattle.ff_lights.proofs.slots.enable_slot.Tie as tie
 
-define-slot-requires : tie.Need-define-slot-requires
-define-slot-requires c κs = search rules
+define_slot-s-requires : tie.Need-define_slot-s-requires
+define_slot-s-requires c κs = search rules
 
-cast-with-bit : tie.Need-overflow-cast-with-bit
-cast-with-bit c = search rules
+overflow_cast-i : tie.Need-overflow_cast-i
+overflow_cast-i c = search rules
 
-with-bit-requires : tie.Need-with-bit-requires
-with-bit-requires c κs = search rules
+with_bit-mask-requires : tie.Need-with_bit-mask-requires
+with_bit-mask-requires c κs = search rules
 
 returns : tie.Need-returns
 unfolding enable_slot
 returns c =
     let a = c.before.before.args in
-    ap (λ (m : ℕ). with_light_enabled c.before.define-slot.result m) c.with-bit.ensures
-    ∙ ap (λ (t : FfState). with_light_enabled t (with_bit t.light_enabled a.i a.enabled)) c.before.define-slot.ensures
+    ap (λ (m : ℕ). with_light_enabled c.before.define_slot-s.result m) c.with_bit-mask.ensures
+    ∙ ap (λ (t : FfState). with_light_enabled t (with_bit t.light_enabled a.i a.enabled)) c.before.define_slot-s.ensures
 
 pub enable_slot_spec : {M : Type 1} → statement M
 enable_slot_spec =
-    tie.close (tie.spec define-slot-requires cast-with-bit with-bit-requires returns)
+    tie.close (tie.spec
+    define_slot-s-requires
+    overflow_cast-i
+    with_bit-mask-requires
+    returns)

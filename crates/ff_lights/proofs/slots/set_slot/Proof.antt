@@ -5,46 +5,46 @@ use Rattle.ff_state.specs.Slots.{set_slot}
 use Rattle.ff_lights.proofs.slots.set_slot.Statement.{statement}
 use Rattle.ff_lights.proofs.slots.set_slot.Tie as tie
 
-cast-k : tie.Need-overflow-cast-k
-cast-k c = search rules
+overflow_cast-k : tie.Need-overflow_cast-k
+overflow_cast-k c = search rules
 
-mul-light : tie.Need-overflow-mul-light
-mul-light c = search rules
+offset_bounds-t-i : tie.Need-offset_bounds-t-i
+offset_bounds-t-i c = search rules
 
-element-set-from-light : tie.Need-element-set-from-light
-element-set-from-light c = search rules
+bounds-t-i : tie.Need-bounds-t-i
+bounds-t-i c = search rules
 
-with-bit-requires : tie.Need-with-bit-requires
-with-bit-requires c κs = search rules
+with_bit-defined-requires : tie.Need-with_bit-defined-requires
+with_bit-defined-requires c κs = search rules
 
-light-type-contributes-requires : tie.Need-light-type-contributes-requires
-light-type-contributes-requires c κs = search rules
+light_type_contributes-requires : tie.Need-light_type_contributes-requires
+light_type_contributes-requires c κs = search rules
 
-with-bit-requires-2 : tie.Need-with-bit-requires-2
-with-bit-requires-2 c κs = search rules
+with_bit-set-requires : tie.Need-with_bit-set-requires
+with_bit-set-requires c κs = search rules
 
-with-bit-requires-3 : tie.Need-with-bit-requires-3
-with-bit-requires-3 c κs = search rules
+with_bit-directional-requires : tie.Need-with_bit-directional-requires
+with_bit-directional-requires c κs = search rules
 
-with-bit-requires-4 : tie.Need-with-bit-requires-4
-with-bit-requires-4 c κs = search rules
+with_bit-spot-requires : tie.Need-with_bit-spot-requires
+with_bit-spot-requires c κs = search rules
 
 returns : tie.Need-returns
 unfolding set_slot
 returns c =
     let set = c.before.before in
-    rw (c.with-bit4.ensures, c.before.with-bit3.ensures, set.with-bit2.ensures, set.before.light-type-contributes.ensures, set.before.before.with-bit.ensures)
+    rw (c.with_bit-spot.ensures, c.before.with_bit-directional.ensures, set.with_bit-set.ensures, set.before.light_type_contributes.ensures, set.before.before.with_bit-defined.ensures)
 
 pub set_slot_spec : {M : Type 1} → statement M
 set_slot_spec =
     tie.close
     (tie.spec
-    cast-k
-    mul-light
-    element-set-from-light
-    with-bit-requires
-    light-type-contributes-requires
-    with-bit-requires-2
-    with-bit-requires-3
-    with-bit-requires-4
+    overflow_cast-k
+    offset_bounds-t-i
+    bounds-t-i
+    with_bit-defined-requires
+    light_type_contributes-requires
+    with_bit-set-requires
+    with_bit-directional-requires
+    with_bit-spot-requires
     returns)

@@ -6,50 +6,50 @@ use Rattle.image_reasons.specs.Reasons.{another_nan}
 use Rattle.image_reasons.proofs.reasons.another_nan.Statement.{statement}
 use Rattle.image_reasons.proofs.reasons.another_nan.Tie as tie
 
-nan-free-requires : tie.Need-nan-free-requires
-nan-free-requires c κs = search rules
+nan_free-requires : tie.Need-nan_free-requires
+nan_free-requires c κs = search rules
+
+returns-then-not-nan_free : tie.Need-returns-then-not-nan_free
+unfolding another_nan
+returns-then-not-nan_free c = rw (← c.before.nan_free.ensures, not-true c.before.nan_free.result c.if-not-nan_free.true)
+
+lights_nan_free-requires : tie.Need-lights_nan_free-requires
+lights_nan_free-requires c κs = search rules
+
+returns-then-not-lights_nan_free : tie.Need-returns-then-not-lights_nan_free
+unfolding another_nan
+returns-then-not-lights_nan_free c = rw (← c.before.before.before.nan_free.ensures, not-false c.before.before.before.nan_free.result c.before.before.if-not-nan_free.false, ← c.before.lights_nan_free.ensures, not-true c.before.lights_nan_free.result c.if-not-lights_nan_free.true)
+
+entries_nan_free-requires : tie.Need-entries_nan_free-requires
+entries_nan_free-requires c κs = search rules
+
+returns-then-not-entries_nan_free : tie.Need-returns-then-not-entries_nan_free
+unfolding another_nan
+returns-then-not-entries_nan_free c =
+    let l = c.before.before.before in
+    let f = l.before.before in
+    rw (← f.nan_free.ensures, not-false f.nan_free.result l.before.if-not-nan_free.false, ← l.lights_nan_free.ensures, not-false l.lights_nan_free.result c.before.before.if-not-lights_nan_free.false, ← c.before.entries_nan_free.ensures, not-true c.before.entries_nan_free.result c.if-not-entries_nan_free.true)
+
+nan_free-requires-2 : tie.Need-nan_free-requires-2
+nan_free-requires-2 c κs = search rules
 
 returns : tie.Need-returns
 unfolding another_nan
-returns c = rw (← c.before.nan-free.ensures, not-true c.before.nan-free.result c.if1.true)
-
-lights-nan-free-requires : tie.Need-lights-nan-free-requires
-lights-nan-free-requires c κs = search rules
-
-returns-2 : tie.Need-returns-2
-unfolding another_nan
-returns-2 c = rw (← c.before.before.before.nan-free.ensures, not-false c.before.before.before.nan-free.result c.before.before.if1.false, ← c.before.lights-nan-free.ensures, not-true c.before.lights-nan-free.result c.if2.true)
-
-entries-nan-free-requires : tie.Need-entries-nan-free-requires
-entries-nan-free-requires c κs = search rules
-
-returns-3 : tie.Need-returns-3
-unfolding another_nan
-returns-3 c =
-    let l = c.before.before.before in
-    let f = l.before.before in
-    rw (← f.nan-free.ensures, not-false f.nan-free.result l.before.if1.false, ← l.lights-nan-free.ensures, not-false l.lights-nan-free.result c.before.before.if2.false, ← c.before.entries-nan-free.ensures, not-true c.before.entries-nan-free.result c.if3.true)
-
-nan-free-requires-2 : tie.Need-nan-free-requires-2
-nan-free-requires-2 c κs = search rules
-
-returns-4 : tie.Need-returns-4
-unfolding another_nan
-returns-4 c =
+returns c =
     let e = c.before.before in
     let l = e.before.before in
     let f = l.before.before in
-    rw (← f.nan-free.ensures, not-false f.nan-free.result l.before.if1.false, ← l.lights-nan-free.ensures, not-false l.lights-nan-free.result e.before.if2.false, ← e.entries-nan-free.ensures, not-false e.entries-nan-free.result c.before.if3.false, ← c.nan-free2.ensures)
+    rw (← f.nan_free.ensures, not-false f.nan_free.result l.before.if-not-nan_free.false, ← l.lights_nan_free.ensures, not-false l.lights_nan_free.result e.before.if-not-lights_nan_free.false, ← e.entries_nan_free.ensures, not-false e.entries_nan_free.result c.before.if-not-entries_nan_free.false, ← c.nan_free-2.ensures)
 
 pub another_nan_spec : {M : Type 1} → statement M
 another_nan_spec =
     tie.close
     (tie.spec
-    nan-free-requires
-    returns
-    lights-nan-free-requires
-    returns-2
-    entries-nan-free-requires
-    returns-3
-    nan-free-requires-2
-    returns-4)
+    nan_free-requires
+    returns-then-not-nan_free
+    lights_nan_free-requires
+    returns-then-not-lights_nan_free
+    entries_nan_free-requires
+    returns-then-not-entries_nan_free
+    nan_free-requires-2
+    returns)

@@ -5,56 +5,56 @@ use Rattle.image_reasons.specs.Reasons.{entries_refused}
 use Rattle.image_reasons.proofs.reasons.entries_refused.Statement.{statement}
 use Rattle.image_reasons.proofs.reasons.entries_refused.Tie as tie
 
-u16-at-requires : tie.Need-u16-at-requires
-u16-at-requires c κs = search rules
+u16_at-n-requires : tie.Need-u16_at-n-requires
+u16_at-n-requires c κs = search rules
 
-cast-n : tie.Need-overflow-cast-n
-cast-n c = search rules
+overflow_cast-n : tie.Need-overflow_cast-n
+overflow_cast-n c = search rules
 
-entries-ascending-requires : tie.Need-entries-ascending-requires
-entries-ascending-requires c κs = search rules
+entries_ascending-requires : tie.Need-entries_ascending-requires
+entries_ascending-requires c κs = search rules
+
+returns-then-not-entries_ascending : tie.Need-returns-then-not-entries_ascending
+unfolding entries_refused
+returns-then-not-entries_ascending c = rw (← c.before.before.u16_at-n.ensures, ← c.before.entries_ascending.ensures, c.if-not-entries_ascending.true)
+
+flags_ok-requires : tie.Need-flags_ok-requires
+flags_ok-requires c κs = search rules
+
+returns-then-not-flags_ok : tie.Need-returns-then-not-flags_ok
+unfolding entries_refused
+returns-then-not-flags_ok c = rw (← c.before.before.before.before.u16_at-n.ensures, ← c.before.before.before.entries_ascending.ensures, c.before.before.if-not-entries_ascending.false, ← c.before.flags_ok.ensures, c.if-not-flags_ok.true)
+
+overflow_mul-from : tie.Need-overflow_mul-from
+overflow_mul-from c = search rules
+
+overflow_add-from : tie.Need-overflow_add-from
+overflow_add-from c = search rules
+
+overflow_sub-from : tie.Need-overflow_sub-from
+overflow_sub-from c = search rules
+
+zeros_at-requires : tie.Need-zeros_at-requires
+zeros_at-requires c κs = search rules
 
 returns : tie.Need-returns
 unfolding entries_refused
-returns c = rw (← c.before.before.u16-at.ensures, ← c.before.entries-ascending.ensures, c.if1.true)
-
-flags-ok-requires : tie.Need-flags-ok-requires
-flags-ok-requires c κs = search rules
-
-returns-2 : tie.Need-returns-2
-unfolding entries_refused
-returns-2 c = rw (← c.before.before.before.before.u16-at.ensures, ← c.before.before.before.entries-ascending.ensures, c.before.before.if1.false, ← c.before.flags-ok.ensures, c.if2.true)
-
-mul-from : tie.Need-overflow-mul-from
-mul-from c = search rules
-
-add-from : tie.Need-overflow-add-from
-add-from c = search rules
-
-sub-zeros-at : tie.Need-overflow-sub-zeros-at
-sub-zeros-at c = search rules
-
-zeros-at-requires : tie.Need-zeros-at-requires
-zeros-at-requires c κs = search rules
-
-returns-3 : tie.Need-returns-3
-unfolding entries_refused
-returns-3 c =
+returns c =
     let at-u16-at = c.before.before.before.before.before in
-    rw (← at-u16-at.u16-at.ensures, ← c.before.before.before.before.entries-ascending.ensures, c.before.before.before.if1.false, ← c.before.before.flags-ok.ensures, c.before.if2.false, ← c.zeros-at.ensures)
+    rw (← at-u16-at.u16_at-n.ensures, ← c.before.before.before.before.entries_ascending.ensures, c.before.before.before.if-not-entries_ascending.false, ← c.before.before.flags_ok.ensures, c.before.if-not-flags_ok.false, ← c.zeros_at.ensures)
 
 pub entries_refused_spec : {M : Type 1} → statement M
 entries_refused_spec =
     tie.close
     (tie.spec
-    u16-at-requires
-    cast-n
-    entries-ascending-requires
-    returns
-    flags-ok-requires
-    returns-2
-    mul-from
-    add-from
-    sub-zeros-at
-    zeros-at-requires
-    returns-3)
+    u16_at-n-requires
+    overflow_cast-n
+    entries_ascending-requires
+    returns-then-not-entries_ascending
+    flags_ok-requires
+    returns-then-not-flags_ok
+    overflow_mul-from
+    overflow_add-from
+    overflow_sub-from
+    zeros_at-requires
+    returns)

@@ -9,55 +9,55 @@ use Rattle.image_reasons.proofs.Numbers.{few_entries}
 use Rattle.image_reasons.proofs.reasons.image_refused.Statement.{statement}
 use Rattle.image_reasons.proofs.reasons.image_refused.Tie as tie
 
-returns : tie.Need-returns
+returns-then-s-ne-IMAGE_LENGTH : tie.Need-returns-then-s-ne-IMAGE_LENGTH
 unfolding refused
-returns c = rw (ne_eqb _ _ c.if1.true)
+returns-then-s-ne-IMAGE_LENGTH c = rw (ne_eqb _ _ c.if-s-ne-IMAGE_LENGTH.true)
 
-numbers-refused-requires : tie.Need-numbers-refused-requires
-numbers-refused-requires c κs = search rules
+numbers_refused-requires : tie.Need-numbers_refused-requires
+numbers_refused-requires c κs = search rules
 
-returns-2 : tie.Need-returns-2
+returns-then-numbers_refused : tie.Need-returns-then-numbers_refused
 unfolding refused
-returns-2 c = rw (eq-eqb _ _ c.before.before.if1.false, ← c.before.numbers-refused.ensures, c.if2.true)
+returns-then-numbers_refused c = rw (eq-eqb _ _ c.before.before.if-s-ne-IMAGE_LENGTH.false, ← c.before.numbers_refused.ensures, c.if-numbers_refused.true)
 
-entries-refused-requires : tie.Need-entries-refused-requires
-entries-refused-requires c κs = (omega arith, few_entries _ (sym c.before.numbers-refused.ensures ∙ c.if2.false))
+entries_refused-requires : tie.Need-entries_refused-requires
+entries_refused-requires c κs = (omega arith, few_entries _ (sym c.before.numbers_refused.ensures ∙ c.if-numbers_refused.false))
 
-returns-3 : tie.Need-returns-3
+returns-then-entries_refused : tie.Need-returns-then-entries_refused
 unfolding refused
-returns-3 c = rw (eq-eqb _ _ c.before.before.before.before.if1.false, ← c.before.before.before.numbers-refused.ensures, c.before.before.if2.false, ← c.before.entries-refused.ensures, c.if3.true)
+returns-then-entries_refused c = rw (eq-eqb _ _ c.before.before.before.before.if-s-ne-IMAGE_LENGTH.false, ← c.before.before.before.numbers_refused.ensures, c.before.before.if-numbers_refused.false, ← c.before.entries_refused.ensures, c.if-entries_refused.true)
 
-slots-refused-requires : tie.Need-slots-refused-requires
-slots-refused-requires c κs = search rules
+slots_refused-requires : tie.Need-slots_refused-requires
+slots_refused-requires c κs = search rules
 
-returns-4 : tie.Need-returns-4
+returns-then-slots_refused : tie.Need-returns-then-slots_refused
 unfolding refused
-returns-4 c =
+returns-then-slots_refused c =
     let at-numbers-refused = c.before.before.before.before.before in
     let at-if1 = c.before.before.before.before.before.before in
-    rw (eq-eqb _ _ at-if1.if1.false, ← at-numbers-refused.numbers-refused.ensures, c.before.before.before.before.if2.false, ← c.before.before.before.entries-refused.ensures, c.before.before.if3.false, ← c.before.slots-refused.ensures, c.if4.true)
+    rw (eq-eqb _ _ at-if1.if-s-ne-IMAGE_LENGTH.false, ← at-numbers-refused.numbers_refused.ensures, c.before.before.before.before.if-numbers_refused.false, ← c.before.before.before.entries_refused.ensures, c.before.before.if-entries_refused.false, ← c.before.slots_refused.ensures, c.if-slots_refused.true)
 
-another-nan-requires : tie.Need-another-nan-requires
-another-nan-requires c κs = search rules
+another_nan-requires : tie.Need-another_nan-requires
+another_nan-requires c κs = search rules
 
-returns-5 : tie.Need-returns-5
+returns : tie.Need-returns
 unfolding refused
-returns-5 c =
+returns c =
     let at-if2 = c.before.before.before.before.before in
     let at-numbers-refused = c.before.before.before.before.before.before in
     let at-if1 = c.before.before.before.before.before.before.before in
-    rw (eq-eqb _ _ at-if1.if1.false, ← at-numbers-refused.numbers-refused.ensures, at-if2.if2.false, ← c.before.before.before.before.entries-refused.ensures, c.before.before.before.if3.false, ← c.before.before.slots-refused.ensures, c.before.if4.false, ← c.another-nan.ensures)
+    rw (eq-eqb _ _ at-if1.if-s-ne-IMAGE_LENGTH.false, ← at-numbers-refused.numbers_refused.ensures, at-if2.if-numbers_refused.false, ← c.before.before.before.before.entries_refused.ensures, c.before.before.before.if-entries_refused.false, ← c.before.before.slots_refused.ensures, c.before.if-slots_refused.false, ← c.another_nan.ensures)
 
 pub image_refused_spec : {M : Type 1} → statement M
 image_refused_spec =
     tie.close
     (tie.spec
-    returns
-    numbers-refused-requires
-    returns-2
-    entries-refused-requires
-    returns-3
-    slots-refused-requires
-    returns-4
-    another-nan-requires
-    returns-5)
+    returns-then-s-ne-IMAGE_LENGTH
+    numbers_refused-requires
+    returns-then-numbers_refused
+    entries_refused-requires
+    returns-then-entries_refused
+    slots_refused-requires
+    returns-then-slots_refused
+    another_nan-requires
+    returns)

@@ -11,60 +11,60 @@ use Rattle.image_reasons.proofs.Numbers.{above, not-above, differs, differs-not}
 use Rattle.image_reasons.proofs.reasons.numbers_refused.Statement.{statement}
 use Rattle.image_reasons.proofs.reasons.numbers_refused.Tie as tie
 
-u32-at-requires : tie.Need-u32-at-requires
-u32-at-requires c κs = search rules
+u32_at-requires : tie.Need-u32_at-requires
+u32_at-requires c κs = search rules
+
+returns-then-u32_at-gt255 : tie.Need-returns-then-u32_at-gt255
+unfolding numbers_refused
+returns-then-u32_at-gt255 c =
+    here _ _ (above _ c.before.u32_at.ensures c.if-u32_at-gt255.true)
+
+u8_at-requires : tie.Need-u8_at-requires
+u8_at-requires c κs = search rules
+
+returns-then-u8_at-ne0 : tie.Need-returns-then-u8_at-ne0
+unfolding numbers_refused
+returns-then-u8_at-ne0 c =
+    let u = c.before.before in
+    next _ _ (not-above _ u.before.u32_at.ensures u.if-u32_at-gt255.false) (here _ _ (differs _ c.before.u8_at.ensures c.if-u8_at-ne0.true))
+
+u16_at-requires : tie.Need-u16_at-requires
+u16_at-requires c κs =
+    let entry = c.before.before.before.before.before in
+    le_trans (lit≤ tt) entry.requires
+
+returns-then-u16_at-gt255 : tie.Need-returns-then-u16_at-gt255
+unfolding numbers_refused
+returns-then-u16_at-gt255 c =
+    let v = c.before.before in
+    let u = v.before.before in
+    next _ _ (not-above _ u.before.u32_at.ensures u.if-u32_at-gt255.false)
+    (next _ _ (differs-not _ v.before.u8_at.ensures v.if-u8_at-ne0.false) (here _ _ (above _ c.before.u16_at.ensures c.if-u16_at-gt255.true)))
+
+u16_at-requires-2 : tie.Need-u16_at-requires-2
+u16_at-requires-2 c κs =
+    let entry = c.before.before.before.before.before.before.before in
+    le_trans (lit≤ tt) entry.requires
 
 returns : tie.Need-returns
 unfolding numbers_refused
 returns c =
-    here _ _ (above _ c.before.u32-at.ensures c.if1.true)
-
-u8-at-requires : tie.Need-u8-at-requires
-u8-at-requires c κs = search rules
-
-returns-2 : tie.Need-returns-2
-unfolding numbers_refused
-returns-2 c =
-    let u = c.before.before in
-    next _ _ (not-above _ u.before.u32-at.ensures u.if1.false) (here _ _ (differs _ c.before.u8-at.ensures c.if2.true))
-
-u16-at-requires : tie.Need-u16-at-requires
-u16-at-requires c κs =
-    let entry = c.before.before.before.before.before in
-    le_trans (lit≤ tt) entry.requires
-
-returns-3 : tie.Need-returns-3
-unfolding numbers_refused
-returns-3 c =
-    let v = c.before.before in
-    let u = v.before.before in
-    next _ _ (not-above _ u.before.u32-at.ensures u.if1.false)
-    (next _ _ (differs-not _ v.before.u8-at.ensures v.if2.false) (here _ _ (above _ c.before.u16-at.ensures c.if3.true)))
-
-u16-at-requires-2 : tie.Need-u16-at-requires-2
-u16-at-requires-2 c κs =
-    let entry = c.before.before.before.before.before.before.before in
-    le_trans (lit≤ tt) entry.requires
-
-returns-4 : tie.Need-returns-4
-unfolding numbers_refused
-returns-4 c =
     let w = c.before in
     let v = w.before.before in
     let u = v.before.before in
-    next _ _ (not-above _ u.before.u32-at.ensures u.if1.false)
-    (next _ _ (differs-not _ v.before.u8-at.ensures v.if2.false)
-    (next _ _ (not-above _ w.before.u16-at.ensures w.if3.false) (ap (λ (n : ℕ). ltb _ n) c.u16-at2.ensures)))
+    next _ _ (not-above _ u.before.u32_at.ensures u.if-u32_at-gt255.false)
+    (next _ _ (differs-not _ v.before.u8_at.ensures v.if-u8_at-ne0.false)
+    (next _ _ (not-above _ w.before.u16_at.ensures w.if-u16_at-gt255.false) (ap (λ (n : ℕ). ltb _ n) c.u16_at-2.ensures)))
 
 pub numbers_refused_spec : {M : Type 1} → statement M
 numbers_refused_spec =
     tie.close
     (tie.spec
-    u32-at-requires
-    returns
-    u8-at-requires
-    returns-2
-    u16-at-requires
-    returns-3
-    u16-at-requires-2
-    returns-4)
+    u32_at-requires
+    returns-then-u32_at-gt255
+    u8_at-requires
+    returns-then-u8_at-ne0
+    u16_at-requires
+    returns-then-u16_at-gt255
+    u16_at-requires-2
+    returns)

@@ -4,17 +4,21 @@ use borrow.Author.Rules.{rules}
 use Rattle.image_reasons.proofs.tests.bit_defined.Statement.{statement}
 use Rattle.image_reasons.proofs.tests.bit_defined.Tie as tie
 
-has-bit-requires : tie.Need-has-bit-requires
-has-bit-requires c κs = search rules
+has_bit-requires : tie.Need-has_bit-requires
+has_bit-requires c κs = search rules
 
-has-bit-requires-2 : tie.Need-has-bit-requires-2
-has-bit-requires-2 c κs = search rules
+has_bit-requires-then-has_bit : tie.Need-has_bit-requires-then-has_bit
+has_bit-requires-then-has_bit c κs = search rules
+
+returns-then-has_bit : tie.Need-returns-then-has_bit
+returns-then-has_bit c = rw (← c.before.before.has_bit.ensures, c.before.if-has_bit.true) c.has_bit-then-has_bit.ensures
 
 returns : tie.Need-returns
-returns c = rw (← c.before.before.has-bit.ensures, c.before.if1.true) c.has-bit2.ensures
-
-returns-2 : tie.Need-returns-2
-returns-2 c = rw (← c.before.has-bit.ensures, c.if1.false)
+returns c = rw (← c.before.has_bit.ensures, c.if-has_bit.false)
 
 pub bit_defined_spec : {M : Type 1} → statement M
-bit_defined_spec = tie.close (tie.spec has-bit-requires has-bit-requires-2 returns returns-2)
+bit_defined_spec = tie.close (tie.spec
+    has_bit-requires
+    has_bit-requires-then-has_bit
+    returns-then-has_bit
+    returns)

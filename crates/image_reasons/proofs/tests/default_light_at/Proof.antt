@@ -9,34 +9,34 @@ use Rattle.image_reasons.specs.Tests.{default_at}
 use Rattle.image_reasons.proofs.tests.default_light_at.Statement.{statement}
 use Rattle.image_reasons.proofs.tests.default_light_at.Tie as tie
 
-slice-aggregate-put-light : tie.Need-slice-aggregate-put-light
-slice-aggregate-put-light c = search rules
+slice_bounds-put_light-end : tie.Need-slice_bounds-put_light-end
+slice_bounds-put_light-end c = search rules
 
-default-light-requires : tie.Need-default-light-requires
-default-light-requires c κs = search rules
+default_light-requires : tie.Need-default_light-requires
+default_light-requires c κs = search rules
 
-put-light-requires : tie.Need-put-light-requires
-put-light-requires c κs = search rules
+put_light-requires : tie.Need-put_light-requires
+put_light-requires c κs = search rules
 
-slice-aggregate-same-at : tie.Need-slice-aggregate-same-at
-slice-aggregate-same-at c = search rules
+slice_bounds-same_at-end : tie.Need-slice_bounds-same_at-end
+slice_bounds-same_at-end c = search rules
 
-same-at-requires : tie.Need-same-at-requires
-same-at-requires c κs = search rules
+same_at-requires : tie.Need-same_at-requires
+same_at-requires c κs = search rules
 
 returns : tie.Need-returns
 unfolding default_at
 returns c =
     let p = c.before.before.before in
-    rw (c.same_at.ensures, p.put-light.ensures, p.before.default-light.ensures, put-light_bytes default_light (replicate 104 0) refl)
+    rw (c.same_at.ensures, p.put_light.ensures, p.before.default_light.ensures, put-light_bytes default_light (replicate 104 0) refl)
 
 pub default_light_at_spec : {M : Type 1} → statement M
 default_light_at_spec =
     tie.close
     (tie.spec
-    slice-aggregate-put-light
-    default-light-requires
-    put-light-requires
-    slice-aggregate-same-at
-    same-at-requires
+    slice_bounds-put_light-end
+    default_light-requires
+    put_light-requires
+    slice_bounds-same_at-end
+    same_at-requires
     returns)

@@ -8,60 +8,60 @@ use Rattle.image_reasons.proofs.Ascends.{Ascends, begins, goes_on, stops, ends}
 use Rattle.image_reasons.proofs.tests.entries_ascending.Statement.{statement}
 use Rattle.image_reasons.proofs.tests.entries_ascending.Tie as tie
 
-abbrev invariant-loop : tie.invariant-loop
-invariant-loop s at n from₀ i₀ from i = Ascends n s at from i
+abbrev invariant-loop-i : tie.invariant-loop-i
+invariant-loop-i s at n from₀ i₀ from i = Ascends n s at from i
 
-abbrev decreases-loop : tie.decreases-loop
-decreases-loop s at n from₀ i₀ from i = n - i
+abbrev decreases-loop-i : tie.decreases-loop-i
+decreases-loop-i s at n from₀ i₀ from i = n - i
 
-loop-holds : tie.Need-loop-init invariant-loop decreases-loop
+loop-i-init : tie.Need-loop-i-init invariant-loop-i decreases-loop-i
 unfolding ascends
-loop-holds c = begins _ _ _ _ refl
+loop-i-init c = begins _ _ _ _ refl
 
-mul-u32-at : tie.Need-overflow-mul-u32-at invariant-loop decreases-loop
-mul-u32-at c = omega arith
+overflow_mul-i : tie.Need-overflow_mul-i invariant-loop-i decreases-loop-i
+overflow_mul-i c = omega arith
 
-add-u32-at : tie.Need-overflow-add-u32-at invariant-loop decreases-loop
-add-u32-at c = omega arith
+overflow_add-at : tie.Need-overflow_add-at invariant-loop-i decreases-loop-i
+overflow_add-at c = omega arith
 
-u32-at-requires : tie.Need-u32-at-requires invariant-loop decreases-loop
-u32-at-requires c κs = omega arith
+u32_at-requires : tie.Need-u32_at-requires invariant-loop-i decreases-loop-i
+u32_at-requires c κs = omega arith
 
-wide-requires : tie.Need-wide-requires invariant-loop decreases-loop
-wide-requires c κs = tt
+wide-index-requires : tie.Need-wide-index-requires invariant-loop-i decreases-loop-i
+wide-index-requires c κs = tt
 
-returns : tie.Need-returns invariant-loop decreases-loop
-returns c = stops _ _ _ c.before.before.before.before.loop.from c.before.before.before.before.loop.i c.before.wide.result c.before.before.before.loop-test.true (c.before.wide.ensures.0 ∙ c.before.before.u32-at.ensures) c.before.before.before.before.loop.invariant c.if1.true
+returns-then-index-from : tie.Need-returns-then-index-from invariant-loop-i decreases-loop-i
+returns-then-index-from c = stops _ _ _ c.before.before.before.before.loop-i.from c.before.before.before.before.loop-i.i c.before.wide-index.result c.before.before.before.loop-i-test.true (c.before.wide-index.ensures.0 ∙ c.before.before.u32_at.ensures) c.before.before.before.before.loop-i.invariant c.if-index-from.true
 
-add-from : tie.Need-overflow-add-from invariant-loop decreases-loop
-add-from c = omega arith
+overflow_add-from : tie.Need-overflow_add-from invariant-loop-i decreases-loop-i
+overflow_add-from c = omega arith
 
-add-i : tie.Need-overflow-add-i invariant-loop decreases-loop
-add-i c = omega arith
+overflow_add-i : tie.Need-overflow_add-i invariant-loop-i decreases-loop-i
+overflow_add-i c = omega arith
 
-loop-less : tie.Need-loop-smaller invariant-loop decreases-loop
-loop-less c = omega arith
+loop-i-smaller : tie.Need-loop-i-smaller invariant-loop-i decreases-loop-i
+loop-i-smaller c = omega arith
 
-loop-again : tie.Need-loop-preserved invariant-loop decreases-loop
-loop-again c = goes_on _ _ _ c.before.before.before.before.loop.from c.before.before.before.before.loop.i c.before.wide.result c.before.before.before.loop-test.true (c.before.wide.ensures.0 ∙ c.before.before.u32-at.ensures) c.before.before.before.before.loop.invariant c.if1.false
+loop-i-preserved : tie.Need-loop-i-preserved invariant-loop-i decreases-loop-i
+loop-i-preserved c = goes_on _ _ _ c.before.before.before.before.loop-i.from c.before.before.before.before.loop-i.i c.before.wide-index.result c.before.before.before.loop-i-test.true (c.before.wide-index.ensures.0 ∙ c.before.before.u32_at.ensures) c.before.before.before.before.loop-i.invariant c.if-index-from.false
 
-returns-2 : tie.Need-returns-2 invariant-loop decreases-loop
-returns-2 c = ends _ _ _ c.before.loop.from c.before.loop.i c.loop-test.false c.before.loop.invariant
+returns : tie.Need-returns invariant-loop-i decreases-loop-i
+returns c = ends _ _ _ c.before.loop-i.from c.before.loop-i.i c.loop-i-test.false c.before.loop-i.invariant
 
 pub entries_ascending_spec : {M : Type 1} → statement M
 entries_ascending_spec =
     tie.close
     (tie.spec
-    invariant-loop
-    decreases-loop
-    loop-holds
-    mul-u32-at
-    add-u32-at
-    u32-at-requires
-    wide-requires
-    returns
-    add-from
-    add-i
-    loop-less
-    loop-again
-    returns-2)
+    invariant-loop-i
+    decreases-loop-i
+    loop-i-init
+    overflow_mul-i
+    overflow_add-at
+    u32_at-requires
+    wide-index-requires
+    returns-then-index-from
+    overflow_add-from
+    overflow_add-i
+    loop-i-smaller
+    loop-i-preserved
+    returns)

@@ -8,57 +8,57 @@ use Rattle.image_reasons.proofs.Every.{Passed, begins, goes_on, ends, stops}
 use Rattle.image_reasons.proofs.tests.entries_nan_free.Statement.{statement}
 use Rattle.image_reasons.proofs.tests.entries_nan_free.Tie as tie
 
-abbrev invariant-loop : tie.invariant-loop
-invariant-loop s at i₀ i = Passed (plain_entry s at) 56 i
+abbrev invariant-loop-i : tie.invariant-loop-i
+invariant-loop-i s at i₀ i = Passed (plain_entry s at) 56 i
 
-abbrev decreases-loop : tie.decreases-loop
-decreases-loop s at i₀ i = 56 - i
+abbrev decreases-loop-i : tie.decreases-loop-i
+decreases-loop-i s at i₀ i = 56 - i
 
-loop-holds : tie.Need-loop-init invariant-loop decreases-loop
-loop-holds c = begins _ _
+loop-i-init : tie.Need-loop-i-init invariant-loop-i decreases-loop-i
+loop-i-init c = begins _ _
 
-mul-nan-free : tie.Need-overflow-mul-nan-free invariant-loop decreases-loop
-mul-nan-free c = omega arith
+overflow_mul-i : tie.Need-overflow_mul-i invariant-loop-i decreases-loop-i
+overflow_mul-i c = omega arith
 
-add-nan-free : tie.Need-overflow-add-nan-free invariant-loop decreases-loop
-add-nan-free c = omega arith
+overflow_add-at : tie.Need-overflow_add-at invariant-loop-i decreases-loop-i
+overflow_add-at c = omega arith
 
-add-nan-free-2 : tie.Need-overflow-add-nan-free-2 invariant-loop decreases-loop
-add-nan-free-2 c = omega arith
+overflow_add-at-in-loop-i : tie.Need-overflow_add-at-in-loop-i invariant-loop-i decreases-loop-i
+overflow_add-at-in-loop-i c = omega arith
 
-nan-free-requires : tie.Need-nan-free-requires invariant-loop decreases-loop
-nan-free-requires c κs = omega arith
+nan_free-requires : tie.Need-nan_free-requires invariant-loop-i decreases-loop-i
+nan_free-requires c κs = omega arith
 
-returns : tie.Need-returns invariant-loop decreases-loop
+returns-then-not-nan_free : tie.Need-returns-then-not-nan_free invariant-loop-i decreases-loop-i
 unfolding entries_nan_free
-returns c = stops _ _ c.before.before.before.loop.i c.before.before.loop-test.true (rw (← c.before.nan-free.ensures) (not-true _ c.if1.true))
+returns-then-not-nan_free c = stops _ _ c.before.before.before.loop-i.i c.before.before.loop-i-test.true (rw (← c.before.nan_free.ensures) (not-true _ c.if-not-nan_free.true))
 
-add-i : tie.Need-overflow-add-i invariant-loop decreases-loop
-add-i c = omega arith
+overflow_add-i : tie.Need-overflow_add-i invariant-loop-i decreases-loop-i
+overflow_add-i c = omega arith
 
-loop-less : tie.Need-loop-smaller invariant-loop decreases-loop
-loop-less c = omega arith
+loop-i-smaller : tie.Need-loop-i-smaller invariant-loop-i decreases-loop-i
+loop-i-smaller c = omega arith
 
-loop-again : tie.Need-loop-preserved invariant-loop decreases-loop
-loop-again c = goes_on _ _ c.before.before.before.loop.i c.before.before.loop-test.true (rw (← c.before.nan-free.ensures) (not-false _ c.if1.false)) c.before.before.before.loop.invariant
+loop-i-preserved : tie.Need-loop-i-preserved invariant-loop-i decreases-loop-i
+loop-i-preserved c = goes_on _ _ c.before.before.before.loop-i.i c.before.before.loop-i-test.true (rw (← c.before.nan_free.ensures) (not-false _ c.if-not-nan_free.false)) c.before.before.before.loop-i.invariant
 
-returns-2 : tie.Need-returns-2 invariant-loop decreases-loop
+returns : tie.Need-returns invariant-loop-i decreases-loop-i
 unfolding entries_nan_free
-returns-2 c = ends _ _ c.before.loop.i c.loop-test.false c.before.loop.invariant
+returns c = ends _ _ c.before.loop-i.i c.loop-i-test.false c.before.loop-i.invariant
 
 pub entries_nan_free_spec : {M : Type 1} → statement M
 entries_nan_free_spec =
     tie.close
     (tie.spec
-    invariant-loop
-    decreases-loop
-    loop-holds
-    mul-nan-free
-    add-nan-free
-    add-nan-free-2
-    nan-free-requires
-    returns
-    add-i
-    loop-less
-    loop-again
-    returns-2)
+    invariant-loop-i
+    decreases-loop-i
+    loop-i-init
+    overflow_mul-i
+    overflow_add-at
+    overflow_add-at-in-loop-i
+    nan_free-requires
+    returns-then-not-nan_free
+    overflow_add-i
+    loop-i-smaller
+    loop-i-preserved
+    returns)

@@ -9,58 +9,58 @@ use Rattle.image_reasons.proofs.Every.{Passed, begins, goes_on, ends, stops}
 use Rattle.image_reasons.proofs.tests.flags_ok.Statement.{statement}
 use Rattle.image_reasons.proofs.tests.flags_ok.Tie as tie
 
-abbrev invariant-loop : tie.invariant-loop
-invariant-loop s at n i₀ i = Passed (flag_at s at) n i
+abbrev invariant-loop-i : tie.invariant-loop-i
+invariant-loop-i s at n i₀ i = Passed (flag_at s at) n i
 
-abbrev decreases-loop : tie.decreases-loop
-decreases-loop s at n i₀ i = n - i
+abbrev decreases-loop-i : tie.decreases-loop-i
+decreases-loop-i s at n i₀ i = n - i
 
-loop-holds : tie.Need-loop-init invariant-loop decreases-loop
-loop-holds c = begins _ _
+loop-i-init : tie.Need-loop-i-init invariant-loop-i decreases-loop-i
+loop-i-init c = begins _ _
 
-mul-u32-at : tie.Need-overflow-mul-u32-at invariant-loop decreases-loop
-mul-u32-at c = omega arith
+overflow_mul-i : tie.Need-overflow_mul-i invariant-loop-i decreases-loop-i
+overflow_mul-i c = omega arith
 
-add-u32-at : tie.Need-overflow-add-u32-at invariant-loop decreases-loop
-add-u32-at c = omega arith
+overflow_add-at : tie.Need-overflow_add-at invariant-loop-i decreases-loop-i
+overflow_add-at c = omega arith
 
-add-u32-at-2 : tie.Need-overflow-add-u32-at-2 invariant-loop decreases-loop
-add-u32-at-2 c = omega arith
+overflow_add-at-in-loop-i : tie.Need-overflow_add-at-in-loop-i invariant-loop-i decreases-loop-i
+overflow_add-at-in-loop-i c = omega arith
 
-u32-at-requires : tie.Need-u32-at-requires invariant-loop decreases-loop
-u32-at-requires c κs = omega arith
+u32_at-requires : tie.Need-u32_at-requires invariant-loop-i decreases-loop-i
+u32_at-requires c κs = omega arith
 
-returns : tie.Need-returns invariant-loop decreases-loop
+returns-then-u32_at-gt1 : tie.Need-returns-then-u32_at-gt1 invariant-loop-i decreases-loop-i
 unfolding flags entry_at
-returns c = stops _ _ c.before.before.before.loop.i c.before.before.loop-test.true (rw (← c.before.u32-at.ensures) (lt-leb _ _ c.if1.true))
+returns-then-u32_at-gt1 c = stops _ _ c.before.before.before.loop-i.i c.before.before.loop-i-test.true (rw (← c.before.u32_at.ensures) (lt-leb _ _ c.if-u32_at-gt1.true))
 
-add-i : tie.Need-overflow-add-i invariant-loop decreases-loop
-add-i c = omega arith
+overflow_add-i : tie.Need-overflow_add-i invariant-loop-i decreases-loop-i
+overflow_add-i c = omega arith
 
-loop-less : tie.Need-loop-smaller invariant-loop decreases-loop
-loop-less c = omega arith
+loop-i-smaller : tie.Need-loop-i-smaller invariant-loop-i decreases-loop-i
+loop-i-smaller c = omega arith
 
-loop-again : tie.Need-loop-preserved invariant-loop decreases-loop
+loop-i-preserved : tie.Need-loop-i-preserved invariant-loop-i decreases-loop-i
 unfolding entry_at
-loop-again c = goes_on _ _ c.before.before.before.loop.i c.before.before.loop-test.true (rw (← c.before.u32-at.ensures) (le-leb _ _ c.if1.false)) c.before.before.before.loop.invariant
+loop-i-preserved c = goes_on _ _ c.before.before.before.loop-i.i c.before.before.loop-i-test.true (rw (← c.before.u32_at.ensures) (le-leb _ _ c.if-u32_at-gt1.false)) c.before.before.before.loop-i.invariant
 
-returns-2 : tie.Need-returns-2 invariant-loop decreases-loop
+returns : tie.Need-returns invariant-loop-i decreases-loop-i
 unfolding flags
-returns-2 c = ends _ _ c.before.loop.i c.loop-test.false c.before.loop.invariant
+returns c = ends _ _ c.before.loop-i.i c.loop-i-test.false c.before.loop-i.invariant
 
 pub flags_ok_spec : {M : Type 1} → statement M
 flags_ok_spec =
     tie.close
     (tie.spec
-    invariant-loop
-    decreases-loop
-    loop-holds
-    mul-u32-at
-    add-u32-at
-    add-u32-at-2
-    u32-at-requires
-    returns
-    add-i
-    loop-less
-    loop-again
-    returns-2)
+    invariant-loop-i
+    decreases-loop-i
+    loop-i-init
+    overflow_mul-i
+    overflow_add-at
+    overflow_add-at-in-loop-i
+    u32_at-requires
+    returns-then-u32_at-gt1
+    overflow_add-i
+    loop-i-smaller
+    loop-i-preserved
+    returns)

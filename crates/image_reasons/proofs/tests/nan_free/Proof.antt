@@ -9,58 +9,58 @@ use Rattle.image_reasons.proofs.Every.{Looked, looks, looked-on, looked-off, loo
 use Rattle.image_reasons.proofs.tests.nan_free.Statement.{statement}
 use Rattle.image_reasons.proofs.tests.nan_free.Tie as tie
 
-abbrev invariant-loop : tie.invariant-loop
-invariant-loop s at n i₀ all₀ i all = Looked (plain_at s at) n i all
+abbrev invariant-loop-i : tie.invariant-loop-i
+invariant-loop-i s at n i₀ all₀ i all = Looked (plain_at s at) n i all
 
-abbrev decreases-loop : tie.decreases-loop
-decreases-loop s at n i₀ all₀ i all = n - i
+abbrev decreases-loop-i : tie.decreases-loop-i
+decreases-loop-i s at n i₀ all₀ i all = n - i
 
-loop-holds : tie.Need-loop-init invariant-loop decreases-loop
-loop-holds c = looks _ _
+loop-i-init : tie.Need-loop-i-init invariant-loop-i decreases-loop-i
+loop-i-init c = looks _ _
 
-mul-u32-at : tie.Need-overflow-mul-u32-at invariant-loop decreases-loop
-mul-u32-at c = omega arith
+overflow_mul-i : tie.Need-overflow_mul-i invariant-loop-i decreases-loop-i
+overflow_mul-i c = omega arith
 
-add-u32-at : tie.Need-overflow-add-u32-at invariant-loop decreases-loop
-add-u32-at c = omega arith
+overflow_add-at : tie.Need-overflow_add-at invariant-loop-i decreases-loop-i
+overflow_add-at c = omega arith
 
-u32-at-requires : tie.Need-u32-at-requires invariant-loop decreases-loop
-u32-at-requires c κs = omega arith
+u32_at-requires : tie.Need-u32_at-requires invariant-loop-i decreases-loop-i
+u32_at-requires c κs = omega arith
 
-plain-word-requires : tie.Need-plain-word-requires invariant-loop decreases-loop
-plain-word-requires c κs = tt
+plain_word-requires : tie.Need-plain_word-requires invariant-loop-i decreases-loop-i
+plain_word-requires c κs = tt
 
-add-i : tie.Need-overflow-add-i invariant-loop decreases-loop
-add-i c = omega arith
+overflow_add-i : tie.Need-overflow_add-i invariant-loop-i decreases-loop-i
+overflow_add-i c = omega arith
 
-loop-less : tie.Need-loop-smaller invariant-loop decreases-loop
-loop-less c = omega arith
+loop-i-smaller : tie.Need-loop-i-smaller invariant-loop-i decreases-loop-i
+loop-i-smaller c = omega arith
 
-loop-again : tie.Need-loop-preserved invariant-loop decreases-loop
-loop-again c =
-    let l = c.before.before.before.before.loop in
-    let t = c.before.before.before.loop-test.true in
+loop-i-preserved : tie.Need-loop-i-preserved invariant-loop-i decreases-loop-i
+loop-i-preserved c =
+    let l = c.before.before.before.before.loop-i in
+    let t = c.before.before.before.loop-i-test.true in
     ⊎_elim
-    (λ w. looked-off _ _ l.i t _ _ l.invariant (rw (← c.before.before.u32-at.ensures, ← c.before.plain_word.ensures) (not-true _ w.0.taken)) w.1)
-    (λ w. looked-on _ _ l.i t _ _ l.invariant (rw (← c.before.before.u32-at.ensures, ← c.before.plain_word.ensures) (not-false _ w.0.left)) w.1)
-    c.if1.branch
+    (λ w. looked-off _ _ l.i t _ _ l.invariant (rw (← c.before.before.u32_at.ensures, ← c.before.plain_word.ensures) (not-true _ w.0.taken)) w.1)
+    (λ w. looked-on _ _ l.i t _ _ l.invariant (rw (← c.before.before.u32_at.ensures, ← c.before.plain_word.ensures) (not-false _ w.0.left)) w.1)
+    c.if-not-plain_word.branch
 
-returns : tie.Need-returns invariant-loop decreases-loop
+returns : tie.Need-returns invariant-loop-i decreases-loop-i
 unfolding nan_free
-returns c = looked-all _ _ c.before.loop.i _ c.loop-test.false c.before.loop.invariant
+returns c = looked-all _ _ c.before.loop-i.i _ c.loop-i-test.false c.before.loop-i.invariant
 
 pub nan_free_spec : {M : Type 1} → statement M
 nan_free_spec =
     tie.close
     (tie.spec
-    invariant-loop
-    decreases-loop
-    loop-holds
-    mul-u32-at
-    add-u32-at
-    u32-at-requires
-    plain-word-requires
-    add-i
-    loop-less
-    loop-again
+    invariant-loop-i
+    decreases-loop-i
+    loop-i-init
+    overflow_mul-i
+    overflow_add-at
+    u32_at-requires
+    plain_word-requires
+    overflow_add-i
+    loop-i-smaller
+    loop-i-preserved
     returns)

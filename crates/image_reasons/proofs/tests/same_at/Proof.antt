@@ -9,53 +9,53 @@ use Rattle.image_reasons.proofs.Every.{Passed, begins, goes_on, ends, stops}
 use Rattle.image_reasons.proofs.tests.same_at.Statement.{statement}
 use Rattle.image_reasons.proofs.tests.same_at.Tie as tie
 
-abbrev invariant-loop : tie.invariant-loop
-invariant-loop s at ws i₀ i = Passed (same_byte ws s at) (length ws) i
+abbrev invariant-loop-i : tie.invariant-loop-i
+invariant-loop-i s at ws i₀ i = Passed (same_byte ws s at) (length ws) i
 
-abbrev decreases-loop : tie.decreases-loop
-decreases-loop s at ws i₀ i = length ws - i
+abbrev decreases-loop-i : tie.decreases-loop-i
+decreases-loop-i s at ws i₀ i = length ws - i
 
-loop-holds : tie.Need-loop-init invariant-loop decreases-loop
-loop-holds c = begins _ _
+loop-i-init : tie.Need-loop-i-init invariant-loop-i decreases-loop-i
+loop-i-init c = begins _ _
 
-add-if1 : tie.Need-overflow-add-if1 invariant-loop decreases-loop
-add-if1 c = omega arith
+overflow_add-at : tie.Need-overflow_add-at invariant-loop-i decreases-loop-i
+overflow_add-at c = omega arith
 
-shared-slice-read-if1 : tie.Need-shared-slice-read-if1 invariant-loop decreases-loop
-shared-slice-read-if1 c = omega arith
+bounds-s-at : tie.Need-bounds-s-at invariant-loop-i decreases-loop-i
+bounds-s-at c = omega arith
 
-shared-slice-read-if1-2 : tie.Need-shared-slice-read-if1-2 invariant-loop decreases-loop
-shared-slice-read-if1-2 c = omega arith
+bounds-ws-i : tie.Need-bounds-ws-i invariant-loop-i decreases-loop-i
+bounds-ws-i c = omega arith
 
-returns : tie.Need-returns invariant-loop decreases-loop
+returns-then-s-at : tie.Need-returns-then-s-at invariant-loop-i decreases-loop-i
 unfolding same_bytes
-returns c = stops _ _ c.before.before.before.before.loop.i c.before.before.before.loop-test.true (ne_eqb _ _ c.if1.true)
+returns-then-s-at c = stops _ _ c.before.before.before.before.loop-i.i c.before.before.before.loop-i-test.true (ne_eqb _ _ c.if-s-at.true)
 
-add-i : tie.Need-overflow-add-i invariant-loop decreases-loop
-add-i c = omega arith
+overflow_add-i : tie.Need-overflow_add-i invariant-loop-i decreases-loop-i
+overflow_add-i c = omega arith
 
-loop-less : tie.Need-loop-smaller invariant-loop decreases-loop
-loop-less c = omega arith
+loop-i-smaller : tie.Need-loop-i-smaller invariant-loop-i decreases-loop-i
+loop-i-smaller c = omega arith
 
-loop-again : tie.Need-loop-preserved invariant-loop decreases-loop
-loop-again c = goes_on _ _ c.before.before.before.before.loop.i c.before.before.before.loop-test.true (eq-eqb _ _ c.if1.false) c.before.before.before.before.loop.invariant
+loop-i-preserved : tie.Need-loop-i-preserved invariant-loop-i decreases-loop-i
+loop-i-preserved c = goes_on _ _ c.before.before.before.before.loop-i.i c.before.before.before.loop-i-test.true (eq-eqb _ _ c.if-s-at.false) c.before.before.before.before.loop-i.invariant
 
-returns-2 : tie.Need-returns-2 invariant-loop decreases-loop
+returns : tie.Need-returns invariant-loop-i decreases-loop-i
 unfolding same_bytes
-returns-2 c = ends _ _ c.before.loop.i c.loop-test.false c.before.loop.invariant
+returns c = ends _ _ c.before.loop-i.i c.loop-i-test.false c.before.loop-i.invariant
 
 pub same_at_spec : {M : Type 1} → statement M
 same_at_spec =
     tie.close
     (tie.spec
-    invariant-loop
-    decreases-loop
-    loop-holds
-    add-if1
-    shared-slice-read-if1
-    shared-slice-read-if1-2
-    returns
-    add-i
-    loop-less
-    loop-again
-    returns-2)
+    invariant-loop-i
+    decreases-loop-i
+    loop-i-init
+    overflow_add-at
+    bounds-s-at
+    bounds-ws-i
+    returns-then-s-at
+    overflow_add-i
+    loop-i-smaller
+    loop-i-preserved
+    returns)

@@ -4,31 +4,31 @@ use borrow.Author.Rules.{rules}
 use Rattle.image_reasons.proofs.tests.slot_default.Statement.{statement}
 use Rattle.image_reasons.proofs.tests.slot_default.Tie as tie
 
-has-bit-requires : tie.Need-has-bit-requires
-has-bit-requires c κs = search rules
+has_bit-requires : tie.Need-has_bit-requires
+has_bit-requires c κs = search rules
+
+returns-then-has_bit : tie.Need-returns-then-has_bit
+returns-then-has_bit c = rw (← c.before.has_bit.ensures, c.if-has_bit.true)
+
+overflow_mul-i : tie.Need-overflow_mul-i
+overflow_mul-i c = search rules
+
+overflow_add-at : tie.Need-overflow_add-at
+overflow_add-at c = search rules
+
+default_light_at-requires : tie.Need-default_light_at-requires
+default_light_at-requires c κs = search rules
 
 returns : tie.Need-returns
-returns c = rw (← c.before.has-bit.ensures, c.if1.true)
-
-mul-default-light-at : tie.Need-overflow-mul-default-light-at
-mul-default-light-at c = search rules
-
-add-default-light-at : tie.Need-overflow-add-default-light-at
-add-default-light-at c = search rules
-
-default-light-at-requires : tie.Need-default-light-at-requires
-default-light-at-requires c κs = search rules
-
-returns-2 : tie.Need-returns-2
-returns-2 c = rw (← c.before.before.has-bit.ensures, c.before.if1.false) c.default-light-at.ensures
+returns c = rw (← c.before.before.has_bit.ensures, c.before.if-has_bit.false) c.default_light_at.ensures
 
 pub slot_default_spec : {M : Type 1} → statement M
 slot_default_spec =
     tie.close
     (tie.spec
-    has-bit-requires
-    returns
-    mul-default-light-at
-    add-default-light-at
-    default-light-at-requires
-    returns-2)
+    has_bit-requires
+    returns-then-has_bit
+    overflow_mul-i
+    overflow_add-at
+    default_light_at-requires
+    returns)

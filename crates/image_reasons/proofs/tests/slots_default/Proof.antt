@@ -8,45 +8,45 @@ use Rattle.image_reasons.proofs.Every.{Passed, begins, goes_on, ends, stops}
 use Rattle.image_reasons.proofs.tests.slots_default.Statement.{statement}
 use Rattle.image_reasons.proofs.tests.slots_default.Tie as tie
 
-abbrev invariant-loop : tie.invariant-loop
-invariant-loop s at defined i₀ i = Passed (slot_default defined s at) 8 i
+abbrev invariant-loop-i : tie.invariant-loop-i
+invariant-loop-i s at defined i₀ i = Passed (slot_default defined s at) 8 i
 
-abbrev decreases-loop : tie.decreases-loop
-decreases-loop s at defined i₀ i = 8 - i
+abbrev decreases-loop-i : tie.decreases-loop-i
+decreases-loop-i s at defined i₀ i = 8 - i
 
-loop-holds : tie.Need-loop-init invariant-loop decreases-loop
-loop-holds c = begins _ _
+loop-i-init : tie.Need-loop-i-init invariant-loop-i decreases-loop-i
+loop-i-init c = begins _ _
 
-slot-default-requires : tie.Need-slot-default-requires invariant-loop decreases-loop
-slot-default-requires c κs = omega arith
+slot_default-requires : tie.Need-slot_default-requires invariant-loop-i decreases-loop-i
+slot_default-requires c κs = omega arith
 
-returns : tie.Need-returns invariant-loop decreases-loop
+returns-then-not-slot_default : tie.Need-returns-then-not-slot_default invariant-loop-i decreases-loop-i
 unfolding slots_default
-returns c = stops _ _ c.before.before.before.loop.i c.before.before.loop-test.true (rw (← c.before.slot-default.ensures) (not-true _ c.if1.true))
+returns-then-not-slot_default c = stops _ _ c.before.before.before.loop-i.i c.before.before.loop-i-test.true (rw (← c.before.slot_default.ensures) (not-true _ c.if-not-slot_default.true))
 
-add-i : tie.Need-overflow-add-i invariant-loop decreases-loop
-add-i c = omega arith
+overflow_add-i : tie.Need-overflow_add-i invariant-loop-i decreases-loop-i
+overflow_add-i c = omega arith
 
-loop-less : tie.Need-loop-smaller invariant-loop decreases-loop
-loop-less c = omega arith
+loop-i-smaller : tie.Need-loop-i-smaller invariant-loop-i decreases-loop-i
+loop-i-smaller c = omega arith
 
-loop-again : tie.Need-loop-preserved invariant-loop decreases-loop
-loop-again c = goes_on _ _ c.before.before.before.loop.i c.before.before.loop-test.true (rw (← c.before.slot-default.ensures) (not-false _ c.if1.false)) c.before.before.before.loop.invariant
+loop-i-preserved : tie.Need-loop-i-preserved invariant-loop-i decreases-loop-i
+loop-i-preserved c = goes_on _ _ c.before.before.before.loop-i.i c.before.before.loop-i-test.true (rw (← c.before.slot_default.ensures) (not-false _ c.if-not-slot_default.false)) c.before.before.before.loop-i.invariant
 
-returns-2 : tie.Need-returns-2 invariant-loop decreases-loop
+returns : tie.Need-returns invariant-loop-i decreases-loop-i
 unfolding slots_default
-returns-2 c = ends _ _ c.before.loop.i c.loop-test.false c.before.loop.invariant
+returns c = ends _ _ c.before.loop-i.i c.loop-i-test.false c.before.loop-i.invariant
 
 pub slots_default_spec : {M : Type 1} → statement M
 slots_default_spec =
     tie.close
     (tie.spec
-    invariant-loop
-    decreases-loop
-    loop-holds
-    slot-default-requires
-    returns
-    add-i
-    loop-less
-    loop-again
-    returns-2)
+    invariant-loop-i
+    decreases-loop-i
+    loop-i-init
+    slot_default-requires
+    returns-then-not-slot_default
+    overflow_add-i
+    loop-i-smaller
+    loop-i-preserved
+    returns)

@@ -9,50 +9,50 @@ use Rattle.image_reasons.proofs.Every.{Looked, looks, looked-on, looked-off, loo
 use Rattle.image_reasons.proofs.tests.zeros_at.Statement.{statement}
 use Rattle.image_reasons.proofs.tests.zeros_at.Tie as tie
 
-abbrev invariant-loop : tie.invariant-loop
-invariant-loop s at n i₀ all₀ i all = Looked (zero_byte s at) n i all
+abbrev invariant-loop-i : tie.invariant-loop-i
+invariant-loop-i s at n i₀ all₀ i all = Looked (zero_byte s at) n i all
 
-abbrev decreases-loop : tie.decreases-loop
-decreases-loop s at n i₀ all₀ i all = n - i
+abbrev decreases-loop-i : tie.decreases-loop-i
+decreases-loop-i s at n i₀ all₀ i all = n - i
 
-loop-holds : tie.Need-loop-init invariant-loop decreases-loop
-loop-holds c = looks _ _
+loop-i-init : tie.Need-loop-i-init invariant-loop-i decreases-loop-i
+loop-i-init c = looks _ _
 
-add-if1 : tie.Need-overflow-add-if1 invariant-loop decreases-loop
-add-if1 c = omega arith
+overflow_add-at : tie.Need-overflow_add-at invariant-loop-i decreases-loop-i
+overflow_add-at c = omega arith
 
-shared-slice-read-if1 : tie.Need-shared-slice-read-if1 invariant-loop decreases-loop
-shared-slice-read-if1 c = omega arith
+bounds-s-at : tie.Need-bounds-s-at invariant-loop-i decreases-loop-i
+bounds-s-at c = omega arith
 
-add-i : tie.Need-overflow-add-i invariant-loop decreases-loop
-add-i c = omega arith
+overflow_add-i : tie.Need-overflow_add-i invariant-loop-i decreases-loop-i
+overflow_add-i c = omega arith
 
-loop-less : tie.Need-loop-smaller invariant-loop decreases-loop
-loop-less c = omega arith
+loop-i-smaller : tie.Need-loop-i-smaller invariant-loop-i decreases-loop-i
+loop-i-smaller c = omega arith
 
-loop-again : tie.Need-loop-preserved invariant-loop decreases-loop
-loop-again c =
-    let l = c.before.before.before.loop in
-    let t = c.before.before.loop-test.true in
+loop-i-preserved : tie.Need-loop-i-preserved invariant-loop-i decreases-loop-i
+loop-i-preserved c =
+    let l = c.before.before.before.loop-i in
+    let t = c.before.before.loop-i-test.true in
     ⊎_elim
     (λ w. looked-off _ _ l.i t _ _ l.invariant (ne_eqb _ _ w.0.taken) w.1)
     (λ w. looked-on _ _ l.i t _ _ l.invariant (eq-eqb _ _ w.0.left) w.1)
-    c.if1.branch
+    c.if-s-at-ne0.branch
 
-returns : tie.Need-returns invariant-loop decreases-loop
+returns : tie.Need-returns invariant-loop-i decreases-loop-i
 unfolding zeros
-returns c = looked-all _ _ c.before.loop.i _ c.loop-test.false c.before.loop.invariant
+returns c = looked-all _ _ c.before.loop-i.i _ c.loop-i-test.false c.before.loop-i.invariant
 
 pub zeros_at_spec : {M : Type 1} → statement M
 zeros_at_spec =
     tie.close
     (tie.spec
-    invariant-loop
-    decreases-loop
-    loop-holds
-    add-if1
-    shared-slice-read-if1
-    add-i
-    loop-less
-    loop-again
+    invariant-loop-i
+    decreases-loop-i
+    loop-i-init
+    overflow_add-at
+    bounds-s-at
+    overflow_add-i
+    loop-i-smaller
+    loop-i-preserved
     returns)

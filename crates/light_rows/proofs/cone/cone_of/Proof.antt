@@ -11,39 +11,44 @@ use borrow.Author.Rules.{rules}
 use Rattle.light_rows.proofs.cone.cone_of.Statement.{statement}
 use Rattle.light_rows.proofs.cone.cone_of.Tie as tie
 
-cos-requires : tie.Need-cos-requires
-cos-requires c κs = search rules
+cos-ct-requires : tie.Need-cos-ct-requires
+cos-ct-requires c κs = search rules
 
-cos-requires-2 : tie.Need-cos-requires-2
-cos-requires-2 c κs = search rules
+cos-cp-requires : tie.Need-cos-cp-requires
+cos-cp-requires c κs = search rules
 
-floored-requires : tie.Need-floored-requires
-floored-requires c κs = search rules
+floored-scale-requires : tie.Need-floored-scale-requires
+floored-scale-requires c κs = search rules
 
-inner : (c : tie.After-cos) → c.cos.result ≡ half_cosine c.before.before.args.theta
+inner : (c : tie.After-cos-ct) → c.cos-ct.result ≡ half_cosine c.before.before.args.theta
 unfolding half_cosine of_bits
-inner c = c.cos.ensures
+inner c = c.cos-ct.ensures
 
-outer : (c : tie.After-cos2) → c.cos2.result ≡ half_cosine c.before.before.before.args.phi
+outer : (c : tie.After-cos-cp) → c.cos-cp.result ≡ half_cosine c.before.before.before.args.phi
 unfolding half_cosine of_bits
-outer c = c.cos2.ensures
+outer c = c.cos-cp.ensures
 
-scaled : (c : tie.After-floored) → div binary32 one c.floored.result ≡ spot_scale c.before.before.before.before.args.theta c.before.before.before.before.args.phi
+scaled : (c : tie.After-floored-scale) → div binary32 one c.floored-scale.result ≡ spot_scale c.before.before.before.before.args.theta c.before.before.before.before.args.phi
 unfolding spot_scale
 scaled c =
     ap (div binary32 one)
-    (c.floored.ensures ∙ ap₂ (λ (a b : Float). floored (sub binary32 a b)) (inner c.before.before) (outer c.before))
+    (c.floored-scale.ensures ∙ ap₂ (λ (a b : Float). floored (sub binary32 a b)) (inner c.before.before) (outer c.before))
+
+returns-then-kind-eq-D3DLIGHT_SPOT : tie.Need-returns-then-kind-eq-D3DLIGHT_SPOT
+unfolding cone_of of_bits
+returns-then-kind-eq-D3DLIGHT_SPOT c =
+    let p = scaled c in
+    let q = ap₂ (λ (a b : Float). times (neg a) b) (outer c.before) p in
+    rw (eq-eqb _ 2 c.before.before.before.if-kind-eq-D3DLIGHT_SPOT.true) (λ i. record { scale = p i; offset = q i })
 
 returns : tie.Need-returns
 unfolding cone_of of_bits
-returns c =
-    let p = scaled c in
-    let q = ap₂ (λ (a b : Float). times (neg a) b) (outer c.before) p in
-    rw (eq-eqb _ 2 c.before.before.before.if1.true) (λ i. record { scale = p i; offset = q i })
-
-returns-2 : tie.Need-returns-2
-unfolding cone_of of_bits
-returns-2 c = rw (ne_eqb _ 2 c.if1.false)
+returns c = rw (ne_eqb _ 2 c.if-kind-eq-D3DLIGHT_SPOT.false)
 
 pub cone_of_spec : {M : Type 1} → statement M
-cone_of_spec = tie.close (tie.spec cos-requires cos-requires-2 floored-requires returns returns-2)
+cone_of_spec = tie.close (tie.spec
+    cos-ct-requires
+    cos-cp-requires
+    floored-scale-requires
+    returns-then-kind-eq-D3DLIGHT_SPOT
+    returns)

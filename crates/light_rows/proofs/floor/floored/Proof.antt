@@ -13,4 +13,6 @@ unfolding floored smallest
 returns c = c.max.ensures
 
 pub floored_spec : {M : Type 1} → statement M
-floored_spec = tie.close (tie.spec max-requires returns)
+floored_spec = tie.close (tie.spec
+    max-requires
+    returns)

@@ -6,17 +6,20 @@ use Rattle.light_rows.specs.Light.{kind_of}
 use Rattle.light_rows.proofs.light.kind_of.Statement.{statement}
 use Rattle.light_rows.proofs.light.kind_of.Tie as tie
 
+returns-then-kind-eq-D3DLIGHT_DIRECTIONAL : tie.Need-returns-then-kind-eq-D3DLIGHT_DIRECTIONAL
+unfolding kind_of of_bits of_int
+returns-then-kind-eq-D3DLIGHT_DIRECTIONAL c = rw (eq-eqb _ 3 c.if-kind-eq-D3DLIGHT_DIRECTIONAL.true)
+
+returns-then-kind-eq-D3DLIGHT_SPOT : tie.Need-returns-then-kind-eq-D3DLIGHT_SPOT
+unfolding kind_of of_bits of_int
+returns-then-kind-eq-D3DLIGHT_SPOT c = rw (ne_eqb _ 3 c.before.if-kind-eq-D3DLIGHT_DIRECTIONAL.false, eq-eqb _ 2 c.if-kind-eq-D3DLIGHT_SPOT.true)
+
 returns : tie.Need-returns
 unfolding kind_of of_bits of_int
-returns c = rw (eq-eqb _ 3 c.if1.true)
-
-returns-2 : tie.Need-returns-2
-unfolding kind_of of_bits of_int
-returns-2 c = rw (ne_eqb _ 3 c.before.if1.false, eq-eqb _ 2 c.if2.true)
-
-returns-3 : tie.Need-returns-3
-unfolding kind_of of_bits of_int
-returns-3 c = rw (ne_eqb _ 3 c.before.if1.false, ne_eqb _ 2 c.if2.false)
+returns c = rw (ne_eqb _ 3 c.before.if-kind-eq-D3DLIGHT_DIRECTIONAL.false, ne_eqb _ 2 c.if-kind-eq-D3DLIGHT_SPOT.false)
 
 pub kind_of_spec : {M : Type 1} → statement M
-kind_of_spec = tie.close (tie.spec returns returns-2 returns-3)
+kind_of_spec = tie.close (tie.spec
+    returns-then-kind-eq-D3DLIGHT_DIRECTIONAL
+    returns-then-kind-eq-D3DLIGHT_SPOT
+    returns)

@@ -8,38 +8,38 @@ use borrow.Author.Rules.{rules}
 use Rattle.light_rows.proofs.light.light_rows.Statement.{statement}
 use Rattle.light_rows.proofs.light.light_rows.Tie as tie
 
-view-transform-point-requires : tie.Need-view-transform-point-requires
-view-transform-point-requires c κs = search rules
+view_transform_point-position-requires : tie.Need-view_transform_point-position-requires
+view_transform_point-position-requires c κs = search rules
 
-view-transform-dir-requires : tie.Need-view-transform-dir-requires
-view-transform-dir-requires c κs = search rules
+view_transform_dir-requires : tie.Need-view_transform_dir-requires
+view_transform_dir-requires c κs = search rules
 
-unit-direction-requires : tie.Need-unit-direction-requires
-unit-direction-requires c κs = search rules
+unit_direction-direction-requires : tie.Need-unit_direction-direction-requires
+unit_direction-direction-requires c κs = search rules
 
-cone-of-requires : tie.Need-cone-of-requires
-cone-of-requires c κs = search rules
+cone_of-cone-requires : tie.Need-cone_of-cone-requires
+cone_of-cone-requires c κs = search rules
 
-kind-of-requires : tie.Need-kind-of-requires
-kind-of-requires c κs = search rules
+kind_of-requires : tie.Need-kind_of-requires
+kind_of-requires c κs = search rules
 
-xyz-row-requires : tie.Need-xyz-row-requires
-xyz-row-requires c κs = search rules
+xyz_row-requires : tie.Need-xyz_row-requires
+xyz_row-requires c κs = search rules
 
 floored-requires : tie.Need-floored-requires
 floored-requires c κs = search rules
 
-xyz-row-requires-2 : tie.Need-xyz-row-requires-2
-xyz-row-requires-2 c κs = search rules
+xyz_row-requires-2 : tie.Need-xyz_row-requires-2
+xyz_row-requires-2 c κs = search rules
 
-rgb-row-requires : tie.Need-rgb-row-requires
-rgb-row-requires c κs = search rules
+rgb_row-requires : tie.Need-rgb_row-requires
+rgb_row-requires c κs = search rules
 
-rgb-row-requires-2 : tie.Need-rgb-row-requires-2
-rgb-row-requires-2 c κs = search rules
+rgb_row-requires-2 : tie.Need-rgb_row-requires-2
+rgb_row-requires-2 c κs = search rules
 
-rgb-row-requires-3 : tie.Need-rgb-row-requires-3
-rgb-row-requires-3 c κs = search rules
+rgb_row-requires-3 : tie.Need-rgb_row-requires-3
+rgb_row-requires-3 c κs = search rules
 
 returns : tie.Need-returns
 unfolding light_rows
@@ -47,13 +47,13 @@ returns c =
     let c₁ = c.before.before.before.before.before in
     let c₀ = c₁.before.before in
     let l = c₀.before.before.before.before.args.l in
-    let position = c₁.xyz-row.ensures ∙ ap₂ xyz_row c₀.before.before.before.view-transform-point.ensures c₁.before.kind-of.ensures in
+    let position = c₁.xyz_row.ensures ∙ ap₂ xyz_row c₀.before.before.before.view_transform_point-position.ensures c₁.before.kind_of.ensures in
     let direction =
-    c.before.before.before.xyz-row2.ensures
-    ∙ ap₂ xyz_row (c₀.before.unit-direction.ensures ∙ ap unit_direction c₀.before.before.view-transform-dir.ensures) c.before.before.before.before.floored.ensures in
-    let diffuse = c.before.before.rgb-row.ensures in
-    let ambient = c.before.rgb-row2.ensures ∙ ap (λ (k : Cone). rgb_row l.ambient k.offset) c₀.cone-of.ensures in
-    let specular = c.rgb-row3.ensures ∙ ap (λ (k : Cone). rgb_row l.specular k.scale) c₀.cone-of.ensures in
+    c.before.before.before.xyz_row-2.ensures
+    ∙ ap₂ xyz_row (c₀.before.unit_direction-direction.ensures ∙ ap unit_direction c₀.before.before.view_transform_dir.ensures) c.before.before.before.before.floored.ensures in
+    let diffuse = c.before.before.rgb_row.ensures in
+    let ambient = c.before.rgb_row-2.ensures ∙ ap (λ (k : Cone). rgb_row l.ambient k.offset) c₀.cone_of-cone.ensures in
+    let specular = c.rgb_row-3.ensures ∙ ap (λ (k : Cone). rgb_row l.specular k.scale) c₀.cone_of-cone.ensures in
     λ i.
     record {
       position = position i;
@@ -68,15 +68,15 @@ pub light_rows_spec : {M : Type 1} → statement M
 light_rows_spec =
     tie.close
     (tie.spec
-    view-transform-point-requires
-    view-transform-dir-requires
-    unit-direction-requires
-    cone-of-requires
-    kind-of-requires
-    xyz-row-requires
+    view_transform_point-position-requires
+    view_transform_dir-requires
+    unit_direction-direction-requires
+    cone_of-cone-requires
+    kind_of-requires
+    xyz_row-requires
     floored-requires
-    xyz-row-requires-2
-    rgb-row-requires
-    rgb-row-requires-2
-    rgb-row-requires-3
+    xyz_row-requires-2
+    rgb_row-requires
+    rgb_row-requires-2
+    rgb_row-requires-3
     returns)

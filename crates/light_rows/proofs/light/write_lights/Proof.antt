@@ -19,73 +19,73 @@ use Rattle.light_rows.proofs.light.write_lights.Tie as tie
 abbrev rows_in : D3DMATRIX → D3DLIGHT9 → List Row
 rows_in view l = six_rows (light_rows view l)
 
-abbrev invariant-loop : tie.invariant-loop
-invariant-loop dst₀ view n lights i₀ at₀ dst i at = Standing (rows_in view) 6 n lights dst₀ dst i at
+abbrev invariant-loop-i : tie.invariant-loop-i
+invariant-loop-i dst₀ view n lights i₀ at₀ dst i at = Standing (rows_in view) 6 n lights dst₀ dst i at
 
-abbrev decreases-loop : tie.decreases-loop
-decreases-loop dst₀ view n lights i₀ at₀ dst i at = n - i
+abbrev decreases-loop-i : tie.decreases-loop-i
+decreases-loop-i dst₀ view n lights i₀ at₀ dst i at = n - i
 
-loop-holds : tie.Need-loop-init invariant-loop decreases-loop
-loop-holds c =
+loop-i-init : tie.Need-loop-i-init invariant-loop-i decreases-loop-i
+loop-i-init c =
     let a = c.before.args in
-    begins (rows_in a.view) 6 (λ l. refl) a.n a.t3 a.dst.now (omega (arith, c.before.well-formed.1.1.0.1.0.1)) c.before.requires.1
+    begins (rows_in a.view) 6 (λ l. refl) a.n a.lights a.dst.now (omega (arith, c.before.well_formed.1.1.0.1.0.1)) c.before.requires.1
 
-mul-light-rows : tie.Need-overflow-mul-light-rows invariant-loop decreases-loop
-mul-light-rows c = omega arith
+offset_bounds-lights-i : tie.Need-offset_bounds-lights-i invariant-loop-i decreases-loop-i
+offset_bounds-lights-i c = omega arith
 
-array-copy-out-light-rows : tie.Need-array-copy-out-light-rows invariant-loop decreases-loop
-array-copy-out-light-rows c = omega arith
+bounds-lights-i : tie.Need-bounds-lights-i invariant-loop-i decreases-loop-i
+bounds-lights-i c = omega arith
 
-light-rows-requires : tie.Need-light-rows-requires invariant-loop decreases-loop
-light-rows-requires c κs = tt
+light_rows-requires : tie.Need-light_rows-requires invariant-loop-i decreases-loop-i
+light_rows-requires c κs = tt
 
-write-light-requires : tie.Need-write-light-requires invariant-loop decreases-loop
-write-light-requires c κs =
+write_light-requires : tie.Need-write_light-requires invariant-loop-i decreases-loop-i
+write_light-requires c κs =
     let l = c.before.before.before.before in
     let a = l.before.before.args in
-    fits (rows_in a.view) 6 (λ l. refl) a.n a.t3 a.dst.now l.loop.dst l.loop.i l.loop.at l.loop.invariant (omega arith)
+    fits (rows_in a.view) 6 (λ l. refl) a.n a.lights a.dst.now l.loop-i.dst l.loop-i.i l.loop-i.at l.loop-i.invariant (omega arith)
 
-add-i : tie.Need-overflow-add-i invariant-loop decreases-loop
-add-i c = omega arith
+overflow_add-i : tie.Need-overflow_add-i invariant-loop-i decreases-loop-i
+overflow_add-i c = omega arith
 
-add_at : tie.Need-overflow-add-at invariant-loop decreases-loop
-add_at c = omega arith
+overflow_add-at : tie.Need-overflow_add-at invariant-loop-i decreases-loop-i
+overflow_add-at c = omega arith
 
-loop-less : tie.Need-loop-smaller invariant-loop decreases-loop
-loop-less c = omega arith
+loop-i-smaller : tie.Need-loop-i-smaller invariant-loop-i decreases-loop-i
+loop-i-smaller c = omega arith
 
-loop-again : tie.Need-loop-preserved invariant-loop decreases-loop
-loop-again c =
+loop-i-preserved : tie.Need-loop-i-preserved invariant-loop-i decreases-loop-i
+loop-i-preserved c =
     let wrote = c.before.before in
     let l = wrote.before.before.before.before.before in
     let a = l.before.before.args in
-    goes_on (rows_in a.view) 6 (λ l. refl) a.n a.t3 a.dst.now _ l.loop.i l.loop.at l.loop.dst _ l.loop.invariant (omega arith)
-    (wrote.write-light.ensures ∙ ap (λ (r : LightRows). sets l.loop.dst l.loop.at (floats (six_rows r))) wrote.before.light-rows.ensures)
+    goes_on (rows_in a.view) 6 (λ l. refl) a.n a.lights a.dst.now _ l.loop-i.i l.loop-i.at l.loop-i.dst _ l.loop-i.invariant (omega arith)
+    (wrote.write_light.ensures ∙ ap (λ (r : LightRows). sets l.loop-i.dst l.loop-i.at (floats (six_rows r))) wrote.before.light_rows.ensures)
 
-same_length : tie.Need-same-length invariant-loop decreases-loop
-same_length c = search rules
+shape_of-dst : tie.Need-shape_of-dst invariant-loop-i decreases-loop-i
+shape_of-dst c = search rules
 
-returns : tie.Need-returns invariant-loop decreases-loop
+returns : tie.Need-returns invariant-loop-i decreases-loop-i
 unfolding lights_rows
 returns c =
     let l = c.before in
     let a = l.before.before.args in
-    ends (rows_in a.view) 6 (λ l. refl) a.n a.t3 a.dst.now l.loop.i l.loop.at l.loop.dst c.loop-test.false l.loop.invariant
+    ends (rows_in a.view) 6 (λ l. refl) a.n a.lights a.dst.now l.loop-i.i l.loop-i.at l.loop-i.dst c.loop-i-test.false l.loop-i.invariant
 
 pub write_lights_spec : {M : Type 1} → statement M
 write_lights_spec =
     tie.close
     (tie.spec
-    invariant-loop
-    decreases-loop
-    loop-holds
-    mul-light-rows
-    array-copy-out-light-rows
-    light-rows-requires
-    write-light-requires
-    add-i
-    add_at
-    loop-less
-    loop-again
-    same_length
+    invariant-loop-i
+    decreases-loop-i
+    loop-i-init
+    offset_bounds-lights-i
+    bounds-lights-i
+    light_rows-requires
+    write_light-requires
+    overflow_add-i
+    overflow_add-at
+    loop-i-smaller
+    loop-i-preserved
+    shape_of-dst
     returns)
