@@ -11,14 +11,14 @@ nan_free-requires c κs = search rules
 
 returns-then-not-nan_free : tie.Need-returns-then-not-nan_free
 unfolding another_nan
-returns-then-not-nan_free c = rw (← c.before.nan_free.ensures, not-true c.before.nan_free.result c.if-not-nan_free.true)
+returns-then-not-nan_free c = rw (← c.before.nan_free.ensures, c.if-not-nan_free.true)
 
 lights_nan_free-requires : tie.Need-lights_nan_free-requires
 lights_nan_free-requires c κs = search rules
 
 returns-then-not-lights_nan_free : tie.Need-returns-then-not-lights_nan_free
 unfolding another_nan
-returns-then-not-lights_nan_free c = rw (← c.before.before.before.nan_free.ensures, not-false c.before.before.before.nan_free.result c.before.before.if-not-nan_free.false, ← c.before.lights_nan_free.ensures, not-true c.before.lights_nan_free.result c.if-not-lights_nan_free.true)
+returns-then-not-lights_nan_free c = rw (← c.before.before.before.nan_free.ensures, c.before.before.if-not-nan_free.false, ← c.before.lights_nan_free.ensures, c.if-not-lights_nan_free.true)
 
 entries_nan_free-requires : tie.Need-entries_nan_free-requires
 entries_nan_free-requires c κs = search rules
@@ -28,7 +28,7 @@ unfolding another_nan
 returns-then-not-entries_nan_free c =
     let l = c.before.before.before in
     let f = l.before.before in
-    rw (← f.nan_free.ensures, not-false f.nan_free.result l.before.if-not-nan_free.false, ← l.lights_nan_free.ensures, not-false l.lights_nan_free.result c.before.before.if-not-lights_nan_free.false, ← c.before.entries_nan_free.ensures, not-true c.before.entries_nan_free.result c.if-not-entries_nan_free.true)
+    rw (← f.nan_free.ensures, l.before.if-not-nan_free.false, ← l.lights_nan_free.ensures, c.before.before.if-not-lights_nan_free.false, ← c.before.entries_nan_free.ensures, c.if-not-entries_nan_free.true)
 
 nan_free-requires-2 : tie.Need-nan_free-requires-2
 nan_free-requires-2 c κs = search rules
@@ -39,7 +39,7 @@ returns c =
     let e = c.before.before in
     let l = e.before.before in
     let f = l.before.before in
-    rw (← f.nan_free.ensures, not-false f.nan_free.result l.before.if-not-nan_free.false, ← l.lights_nan_free.ensures, not-false l.lights_nan_free.result e.before.if-not-lights_nan_free.false, ← e.entries_nan_free.ensures, not-false e.entries_nan_free.result c.before.if-not-entries_nan_free.false, ← c.nan_free-2.ensures)
+    rw (← f.nan_free.ensures, l.before.if-not-nan_free.false, ← l.lights_nan_free.ensures, e.before.if-not-lights_nan_free.false, ← e.entries_nan_free.ensures, c.before.if-not-entries_nan_free.false, ← c.nan_free-2.ensures)
 
 pub another_nan_spec : {M : Type 1} → statement M
 another_nan_spec =

@@ -22,7 +22,7 @@ bit_defined-requires c κs = omega arith
 
 returns-then-not-bit_defined : tie.Need-returns-then-not-bit_defined invariant-loop-i decreases-loop-i
 unfolding bits_defined
-returns-then-not-bit_defined c = stops _ _ c.before.before.before.loop-i.i c.before.before.loop-i-test.true (rw (← c.before.bit_defined.ensures) (not-true _ c.if-not-bit_defined.true))
+returns-then-not-bit_defined c = stops _ _ c.before.before.before.loop-i.i c.before.before.loop-i-test.true (rw (← c.before.bit_defined.ensures) c.if-not-bit_defined.true)
 
 overflow_add-i : tie.Need-overflow_add-i invariant-loop-i decreases-loop-i
 overflow_add-i c = omega arith
@@ -31,7 +31,7 @@ loop-i-smaller : tie.Need-loop-i-smaller invariant-loop-i decreases-loop-i
 loop-i-smaller c = omega arith
 
 loop-i-preserved : tie.Need-loop-i-preserved invariant-loop-i decreases-loop-i
-loop-i-preserved c = goes_on _ _ c.before.before.before.loop-i.i c.before.before.loop-i-test.true (rw (← c.before.bit_defined.ensures) (not-false _ c.if-not-bit_defined.false)) c.before.before.before.loop-i.invariant
+loop-i-preserved c = goes_on _ _ c.before.before.before.loop-i.i c.before.before.loop-i-test.true (rw (← c.before.bit_defined.ensures) c.if-not-bit_defined.false) c.before.before.before.loop-i.invariant
 
 returns : tie.Need-returns invariant-loop-i decreases-loop-i
 unfolding bits_defined

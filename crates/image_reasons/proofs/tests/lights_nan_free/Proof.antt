@@ -31,7 +31,7 @@ nan_free-requires c κs = omega arith
 
 returns-then-not-nan_free : tie.Need-returns-then-not-nan_free invariant-loop-i decreases-loop-i
 unfolding lights_nan_free
-returns-then-not-nan_free c = stops _ _ c.before.before.before.loop-i.i c.before.before.loop-i-test.true (rw (← c.before.nan_free.ensures) (not-true _ c.if-not-nan_free.true))
+returns-then-not-nan_free c = stops _ _ c.before.before.before.loop-i.i c.before.before.loop-i-test.true (rw (← c.before.nan_free.ensures) c.if-not-nan_free.true)
 
 overflow_add-i : tie.Need-overflow_add-i invariant-loop-i decreases-loop-i
 overflow_add-i c = omega arith
@@ -40,7 +40,7 @@ loop-i-smaller : tie.Need-loop-i-smaller invariant-loop-i decreases-loop-i
 loop-i-smaller c = omega arith
 
 loop-i-preserved : tie.Need-loop-i-preserved invariant-loop-i decreases-loop-i
-loop-i-preserved c = goes_on _ _ c.before.before.before.loop-i.i c.before.before.loop-i-test.true (rw (← c.before.nan_free.ensures) (not-false _ c.if-not-nan_free.false)) c.before.before.before.loop-i.invariant
+loop-i-preserved c = goes_on _ _ c.before.before.before.loop-i.i c.before.before.loop-i-test.true (rw (← c.before.nan_free.ensures) c.if-not-nan_free.false) c.before.before.before.loop-i.invariant
 
 returns : tie.Need-returns invariant-loop-i decreases-loop-i
 unfolding lights_nan_free

@@ -7,6 +7,7 @@ use borrow.Author.Tests.{not-true, not-false}
 use Rattle.image_reasons.specs.Tests.{nan_free, plain_at}
 use Rattle.image_reasons.proofs.Every.{Looked, looks, looked-on, looked-off, looked-all}
 use Rattle.image_reasons.proofs.tests.nan_free.Statement.{statement}
+use Rattle.image_reasons.proofs.tests.nan_free.Lts.{then-not-plain_word, else-not-plain_word}
 use Rattle.image_reasons.proofs.tests.nan_free.Tie as tie
 
 abbrev invariant-loop-i : tie.invariant-loop-i
@@ -40,10 +41,10 @@ loop-i-preserved : tie.Need-loop-i-preserved invariant-loop-i decreases-loop-i
 loop-i-preserved c =
     let l = c.before.before.before.before.loop-i in
     let t = c.before.before.before.loop-i-test.true in
-    ⊎_elim
-    (λ w. looked-off _ _ l.i t _ _ l.invariant (rw (← c.before.before.u32_at.ensures, ← c.before.plain_word.ensures) (not-true _ w.0.taken)) w.1)
-    (λ w. looked-on _ _ l.i t _ _ l.invariant (rw (← c.before.before.u32_at.ensures, ← c.before.plain_word.ensures) (not-false _ w.0.left)) w.1)
-    c.if-not-plain_word.branch
+    elim c.if-not-plain_word.branch [
+        then-not-plain_word w ↦ looked-off _ _ l.i t _ _ l.invariant (rw (← c.before.before.u32_at.ensures, ← c.before.plain_word.ensures) w.if-not-plain_word.true) w.all-is
+      | else-not-plain_word w ↦ looked-on _ _ l.i t _ _ l.invariant (rw (← c.before.before.u32_at.ensures, ← c.before.plain_word.ensures) w.if-not-plain_word.false) w.all-is
+    ]
 
 returns : tie.Need-returns invariant-loop-i decreases-loop-i
 unfolding nan_free

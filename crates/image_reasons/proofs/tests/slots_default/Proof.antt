@@ -22,7 +22,7 @@ slot_default-requires c κs = omega arith
 
 returns-then-not-slot_default : tie.Need-returns-then-not-slot_default invariant-loop-i decreases-loop-i
 unfolding slots_default
-returns-then-not-slot_default c = stops _ _ c.before.before.before.loop-i.i c.before.before.loop-i-test.true (rw (← c.before.slot_default.ensures) (not-true _ c.if-not-slot_default.true))
+returns-then-not-slot_default c = stops _ _ c.before.before.before.loop-i.i c.before.before.loop-i-test.true (rw (← c.before.slot_default.ensures) c.if-not-slot_default.true)
 
 overflow_add-i : tie.Need-overflow_add-i invariant-loop-i decreases-loop-i
 overflow_add-i c = omega arith
@@ -31,7 +31,7 @@ loop-i-smaller : tie.Need-loop-i-smaller invariant-loop-i decreases-loop-i
 loop-i-smaller c = omega arith
 
 loop-i-preserved : tie.Need-loop-i-preserved invariant-loop-i decreases-loop-i
-loop-i-preserved c = goes_on _ _ c.before.before.before.loop-i.i c.before.before.loop-i-test.true (rw (← c.before.slot_default.ensures) (not-false _ c.if-not-slot_default.false)) c.before.before.before.loop-i.invariant
+loop-i-preserved c = goes_on _ _ c.before.before.before.loop-i.i c.before.before.loop-i-test.true (rw (← c.before.slot_default.ensures) c.if-not-slot_default.false) c.before.before.before.loop-i.invariant
 
 returns : tie.Need-returns invariant-loop-i decreases-loop-i
 unfolding slots_default

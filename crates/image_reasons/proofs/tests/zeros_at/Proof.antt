@@ -7,6 +7,7 @@ use borrow.Author.Tests.{eq-eqb, ne_eqb}
 use Rattle.image_reasons.specs.Tests.{zeros, zero_byte}
 use Rattle.image_reasons.proofs.Every.{Looked, looks, looked-on, looked-off, looked-all}
 use Rattle.image_reasons.proofs.tests.zeros_at.Statement.{statement}
+use Rattle.image_reasons.proofs.tests.zeros_at.Lts.{then-s-at-ne0, else-s-at-ne0}
 use Rattle.image_reasons.proofs.tests.zeros_at.Tie as tie
 
 abbrev invariant-loop-i : tie.invariant-loop-i
@@ -34,10 +35,10 @@ loop-i-preserved : tie.Need-loop-i-preserved invariant-loop-i decreases-loop-i
 loop-i-preserved c =
     let l = c.before.before.before.loop-i in
     let t = c.before.before.loop-i-test.true in
-    ⊎_elim
-    (λ w. looked-off _ _ l.i t _ _ l.invariant (ne_eqb _ _ w.0.taken) w.1)
-    (λ w. looked-on _ _ l.i t _ _ l.invariant (eq-eqb _ _ w.0.left) w.1)
-    c.if-s-at-ne0.branch
+    elim c.if-s-at-ne0.branch [
+        then-s-at-ne0 w ↦ looked-off _ _ l.i t _ _ l.invariant (ne_eqb _ _ w.if-s-at-ne0.true) w.all-is
+      | else-s-at-ne0 w ↦ looked-on _ _ l.i t _ _ l.invariant (eq-eqb _ _ w.if-s-at-ne0.false) w.all-is
+    ]
 
 returns : tie.Need-returns invariant-loop-i decreases-loop-i
 unfolding zeros
