@@ -10,21 +10,25 @@ use borrow.Author.Rules.{rules}
 use Rattle.image.proofs.read.read_image.Statement.{statement}
 use Rattle.image.proofs.read.read_image.Tie as tie
 
-image-refused-requires : tie.Need-image-refused-requires
-image-refused-requires c κs = search rules
+image_refused-requires : tie.Need-image_refused-requires
+image_refused-requires c κs = search rules
+
+returns-then-image_refused : tie.Need-returns-then-image_refused
+unfolding read_image
+returns-then-image_refused c = rw (← c.before.image_refused.ensures, c.if-image_refused.true)
+
+state_of-requires : tie.Need-state_of-requires
+state_of-requires c κs = omega (arith, (accepted _ (sym c.before.image_refused.ensures ∙ c.if-image_refused.false)).long)
 
 returns : tie.Need-returns
 unfolding read_image
-returns c = rw (← c.before.image-refused.ensures, c.if1.true)
-
-state-of-requires : tie.Need-state-of-requires
-state-of-requires c κs = omega (arith, (accepted _ (sym c.before.image-refused.ensures ∙ c.if1.false)).long)
-
-returns-2 : tie.Need-returns-2
-unfolding read_image
-returns-2 c =
-    rw (← c.before.before.image-refused.ensures, c.before.if1.false)
-    (ap (λ (t : FfState). record { answer = Accepted; state = t }) c.state-of.ensures)
+returns c =
+    rw (← c.before.before.image_refused.ensures, c.before.if-image_refused.false)
+    (ap (λ (t : FfState). record { answer = Accepted; state = t }) c.state_of.ensures)
 
 pub read_image_spec : {M : Type 1} → statement M
-read_image_spec = tie.close (tie.spec image-refused-requires returns state-of-requires returns-2)
+read_image_spec = tie.close (tie.spec
+    image_refused-requires
+    returns-then-image_refused
+    state_of-requires
+    returns)

@@ -7,66 +7,66 @@ use borrow.Author.Rules.{rules}
 use Rattle.image.proofs.read.state_of.Statement.{statement}
 use Rattle.image.proofs.read.state_of.Tie as tie
 
-lights-at-requires : tie.Need-lights-at-requires
-lights-at-requires c κs = search rules
+lights_at-lights-requires : tie.Need-lights_at-lights-requires
+lights_at-lights-requires c κs = search rules
 
-u8-at-requires : tie.Need-u8-at-requires
-u8-at-requires c κs = search rules
+u8_at-defined-requires : tie.Need-u8_at-defined-requires
+u8_at-defined-requires c κs = search rules
 
-set-mask-requires : tie.Need-set-mask-requires
-set-mask-requires c κs = search rules
+set_mask-set-requires : tie.Need-set_mask-set-requires
+set_mask-set-requires c κs = search rules
 
-type-mask-requires : tie.Need-type-mask-requires
-type-mask-requires c κs = search rules
+type_mask-directional-requires : tie.Need-type_mask-directional-requires
+type_mask-directional-requires c κs = search rules
 
-type-mask-requires-2 : tie.Need-type-mask-requires-2
-type-mask-requires-2 c κs = search rules
+type_mask-spot-requires : tie.Need-type_mask-spot-requires
+type_mask-spot-requires c κs = search rules
 
-matrix-at-requires : tie.Need-matrix-at-requires
-matrix-at-requires c κs = search rules
+matrix_at-requires : tie.Need-matrix_at-requires
+matrix_at-requires c κs = search rules
 
-matrix-at-requires-2 : tie.Need-matrix-at-requires-2
-matrix-at-requires-2 c κs = search rules
+matrix_at-requires-2 : tie.Need-matrix_at-requires-2
+matrix_at-requires-2 c κs = search rules
 
-palette-at-requires : tie.Need-palette-at-requires
-palette-at-requires c κs = search rules
+palette_at-requires : tie.Need-palette_at-requires
+palette_at-requires c κs = search rules
 
-u16-at-requires : tie.Need-u16-at-requires
-u16-at-requires c κs = search rules
+u16_at-requires : tie.Need-u16_at-requires
+u16_at-requires c κs = search rules
 
-textures-at-requires : tie.Need-textures-at-requires
-textures-at-requires c κs = search rules
+textures_at-requires : tie.Need-textures_at-requires
+textures_at-requires c κs = search rules
 
-material-at-requires : tie.Need-material-at-requires
-material-at-requires c κs = search rules
+material_at-requires : tie.Need-material_at-requires
+material_at-requires c κs = search rules
 
-u8-at-requires-2 : tie.Need-u8-at-requires-2
-u8-at-requires-2 c κs =
+u8_at-requires : tie.Need-u8_at-requires
+u8_at-requires c κs =
     let entry = c.before.before.before.before.before.before.before.before.before.before.before.before in
     le_trans (lit≤ tt) entry.requires
 
-entries-at-requires : tie.Need-entries-at-requires
-entries-at-requires c κs =
+entries_at-requires : tie.Need-entries_at-requires
+entries_at-requires c κs =
     let entry = c.before.before.before.before.before.before.before.before.before.before.before.before.before in
     le_trans (lit≤ tt) entry.requires
 
-u16-at-requires-2 : tie.Need-u16-at-requires-2
-u16-at-requires-2 c κs =
+u16_at-requires-2 : tie.Need-u16_at-requires-2
+u16_at-requires-2 c κs =
     let entry = c.before.before.before.before.before.before.before.before.before.before.before.before.before.before in
     le_trans (lit≤ tt) entry.requires
 
-u8-at-requires-3 : tie.Need-u8-at-requires-3
-u8-at-requires-3 c κs =
+u8_at-requires-2 : tie.Need-u8_at-requires-2
+u8_at-requires-2 c κs =
     let entry = c.before.before.before.before.before.before.before.before.before.before.before.before.before.before.before in
     le_trans (lit≤ tt) entry.requires
 
-states-at-requires : tie.Need-states-at-requires
-states-at-requires c κs =
+states_at-requires : tie.Need-states_at-requires
+states_at-requires c κs =
     let entry = c.before.before.before.before.before.before.before.before.before.before.before.before.before.before.before.before in
     le_trans (lit≤ tt) entry.requires
 
-u8-at-requires-4 : tie.Need-u8-at-requires-4
-u8-at-requires-4 c κs =
+u8_at-requires-3 : tie.Need-u8_at-requires-3
+u8_at-requires-3 c κs =
     let entry = c.before.before.before.before.before.before.before.before.before.before.before.before.before.before.before.before.before in
     le_trans (lit≤ tt) entry.requires
 
@@ -85,44 +85,44 @@ returns c =
     let at-u8-at = d.before.before.before.before.before.before.before.before.before.before.before.before.before in
     let at-lights-at = d.before.before.before.before.before.before.before.before.before.before.before.before.before.before in
     rw (
-      c.u8-at4.ensures,
-      c.before.states-at.ensures,
-      d.u8-at3.ensures,
-      d.before.u16-at2.ensures,
+      c.u8_at-3.ensures,
+      c.before.states_at.ensures,
+      d.u8_at-2.ensures,
+      d.before.u16_at-2.ensures,
       d.before.before.entries_at.ensures,
-      d.before.before.before.u8-at2.ensures,
-      d.before.before.before.before.material-at.ensures,
-      at-textures-at.textures-at.ensures,
-      at-u16-at.u16-at.ensures,
-      at-palette-at.palette-at.ensures,
-      at-matrix-at2.matrix-at2.ensures,
-      at-matrix-at.matrix-at.ensures,
-      at-type-mask2.type-mask2.ensures,
-      at-type-mask.type-mask.ensures,
-      at-set-mask.set-mask.ensures,
-      at-u8-at.u8-at.ensures,
-      at-lights-at.lights-at.ensures,
+      d.before.before.before.u8_at.ensures,
+      d.before.before.before.before.material_at.ensures,
+      at-textures-at.textures_at.ensures,
+      at-u16-at.u16_at.ensures,
+      at-palette-at.palette_at.ensures,
+      at-matrix-at2.matrix_at-2.ensures,
+      at-matrix-at.matrix_at.ensures,
+      at-type-mask2.type_mask-spot.ensures,
+      at-type-mask.type_mask-directional.ensures,
+      at-set-mask.set_mask-set.ensures,
+      at-u8-at.u8_at-defined.ensures,
+      at-lights-at.lights_at-lights.ensures,
     )
 
 pub state_of_spec : {M : Type 1} → statement M
 state_of_spec =
     tie.close
     (tie.spec
-    lights-at-requires
-    u8-at-requires
-    set-mask-requires
-    type-mask-requires
-    type-mask-requires-2
-    matrix-at-requires
-    matrix-at-requires-2
-    palette-at-requires
-    u16-at-requires
-    textures-at-requires
-    material-at-requires
-    u8-at-requires-2
-    entries-at-requires
-    u16-at-requires-2
-    u8-at-requires-3
-    states-at-requires
-    u8-at-requires-4
+    lights_at-lights-requires
+    u8_at-defined-requires
+    set_mask-set-requires
+    type_mask-directional-requires
+    type_mask-spot-requires
+    matrix_at-requires
+    matrix_at-requires-2
+    palette_at-requires
+    u16_at-requires
+    textures_at-requires
+    material_at-requires
+    u8_at-requires
+    entries_at-requires
+    u16_at-requires-2
+    u8_at-requires-2
+    states_at-requires
+    u8_at-requires-3
     returns)

@@ -14,136 +14,97 @@ use borrow.Author.Rules.{rules}
 use Rattle.image.proofs.write.write_image.Statement.{statement}
 use Rattle.image.proofs.write.write_image.Tie as tie
 
--- the lengths of the state's arrays, as their types give them
-sized : (c : tie.Start) → Sized c.args.s
-sized c =
-    let s = c.args.s in
-    record {
-      palette = sym (length-map s.world_palette _) ∙ c.well-formed.0.1.1.1.1.0.1.0.1;
-      texture = sym (length-map s.texture_transforms _) ∙ c.well-formed.0.1.1.1.1.1.1.0.1.0.1;
-      lights = sym (length-map s.lights _) ∙ c.well-formed.0.1.1.1.1.1.1.1.1.0.1.0.1;
-      overflow = sym (length-map s.overflow_lights _) ∙ c.well-formed.0.1.1.1.1.1.1.1.1.1.1.1.1.1.1.0.1.0.1;
-    }
-
-returns : tie.Need-returns
+returns-then-dst-ne-IMAGE_LENGTH : tie.Need-returns-then-dst-ne-IMAGE_LENGTH
 unfolding write_image
-returns c = rw (ne_eqb (length c.before.before.args.dst.now) image_length c.if1.true)
+returns-then-dst-ne-IMAGE_LENGTH c = rw (ne_eqb (length c.args.dst.now) image_length c.if-dst-ne-IMAGE_LENGTH.true)
 
-put-matrix-requires : tie.Need-put-matrix-requires
-put-matrix-requires c κs = search rules
+put_matrix-requires : tie.Need-put_matrix-requires
+put_matrix-requires c κs = search rules
 
-put-matrix-requires-2 : tie.Need-put-matrix-requires-2
-put-matrix-requires-2 c κs = search rules
+put_matrix-requires-2 : tie.Need-put_matrix-requires-2
+put_matrix-requires-2 c κs = search rules
 
-put-palette-requires : tie.Need-put-palette-requires
-put-palette-requires c κs = search rules
+put_palette-requires : tie.Need-put_palette-requires
+put_palette-requires c κs = search rules
 
-put-textures-requires : tie.Need-put-textures-requires
-put-textures-requires c κs = search rules
+put_textures-requires : tie.Need-put_textures-requires
+put_textures-requires c κs = search rules
 
-put-material-requires : tie.Need-put-material-requires
-put-material-requires c κs = search rules
+put_material-requires : tie.Need-put_material-requires
+put_material-requires c κs = search rules
 
-put-lights-requires : tie.Need-put-lights-requires
-put-lights-requires c κs = search rules
+put_lights-requires : tie.Need-put_lights-requires
+put_lights-requires c κs = search rules
 
-put-u8-requires : tie.Need-put-u8-requires
-put-u8-requires c κs = search rules
+put_u8-requires : tie.Need-put_u8-requires
+put_u8-requires c κs = search rules
 
-put-u8-requires-2 : tie.Need-put-u8-requires-2
-put-u8-requires-2 c κs = search rules
+put_u8-requires-2 : tie.Need-put_u8-requires-2
+put_u8-requires-2 c κs = search rules
 
--- from the end back to the eighth call
-abbrev eighth : tie.After-slice-known16 → tie.After-put-u82
-eighth c = c.before.before.before.before.before.before.before.before.before.before.before.before.before.before.before.before.before.before.before.before.before.before.before.before.before.before.before.before.before.before.before
+put_u8-requires-3 : tie.Need-put_u8-requires-3
+put_u8-requires-3 c κs = omega arith
 
--- from the eighth call back to the test of the length
-abbrev tested : tie.After-put-u82 → tie.Else1
-tested c =
-    let c₅ = c.before.before.before.before.before.before.before.before.before.before.before.before in
-    let c₁ = c₅.before.before.before.before.before.before.before.before.before.before.before.before.before.before.before.before in
-    c₁.before.before.before.before.before.before
+put_u8-requires-4 : tie.Need-put_u8-requires-4
+put_u8-requires-4 c κs = omega arith
 
--- a call keeps the length
-long : (c : tie.After-put-u82) → length c.put-u82.new.0 ≡ image_length
-long c = omega arith
+put_u16-requires : tie.Need-put_u16-requires
+put_u16-requires c κs = omega arith
 
-put-u8-requires-3 : tie.Need-put-u8-requires-3
-put-u8-requires-3 c κs = omega (arith, long c.before.before.before)
+put_u16-requires-2 : tie.Need-put_u16-requires-2
+put_u16-requires-2 c κs = omega arith
 
-put-u8-requires-4 : tie.Need-put-u8-requires-4
-put-u8-requires-4 c κs = omega (arith, long c.before.before.before.before.before.before.before)
+put_entries-requires : tie.Need-put_entries-requires
+put_entries-requires c κs = omega arith
 
-put-u16-requires : tie.Need-put-u16-requires
-put-u16-requires c κs = omega (arith, long c.before.before.before.before.before.before.before.before.before.before.before)
-
-put-u16-requires-2 : tie.Need-put-u16-requires-2
-put-u16-requires-2 c κs = omega (arith, long c.before.before.before.before.before.before.before.before.before.before.before.before.before.before.before)
-
-put-entries-requires : tie.Need-put-entries-requires
-put-entries-requires c κs = omega (arith, long c.before.before.before.before.before.before.before.before.before.before.before.before.before.before.before.before.before.before.before)
-
-put-states-requires : tie.Need-put-states-requires
-put-states-requires c κs = omega (arith, long c.before.before.before.before.before.before.before.before.before.before.before.before.before.before.before.before.before.before.before.before.before.before.before)
+put_states-requires : tie.Need-put_states-requires
+put_states-requires c κs = omega arith
 
 wide8-requires : tie.Need-wide8-requires
 wide8-requires c κs = search rules
 
-put-u32-requires : tie.Need-put-u32-requires
-put-u32-requires c κs = omega (arith, long c.before.before.before.before.before.before.before.before.before.before.before.before.before.before.before.before.before.before.before.before.before.before.before.before.before.before.before.before)
+put_u32-requires : tie.Need-put_u32-requires
+put_u32-requires c κs = omega arith
 
-same_length : tie.Need-same-length
-same_length c =
-    let e : length c.before.before.put-u32.new.0 ≡ image_length = omega (arith, long (eighth c)) in
-    e ∙ sym (tested (eighth c)).if1.false
+shape_of-dst : tie.Need-shape_of-dst
+shape_of-dst c = omega arith
 
-returns-2 : tie.Need-returns-2
+returns : tie.Need-returns
 unfolding write_image image_bytes image_table
-returns-2 c =
-    let c₁₅ = c.before.before in
-    let c₁₄ = c₁₅.before.before.before.before.before in
-    let c₁₃ = c₁₄.before.before.before.before in
-    let c₁₂ = c₁₃.before.before.before.before in
-    let c₁₁ = c₁₂.before.before.before.before in
-    let c₁₀ = c₁₁.before.before.before.before in
-    let c₉ = c₁₀.before.before.before.before in
-    let c₈ = c₉.before.before.before.before in
-    let c₇ = c₈.before.before.before.before in
-    let c₆ = c₇.before.before.before.before in
-    let c₅ = c₆.before.before.before.before in
-    let c₄ = c₅.before.before.before.before in
-    let c₃ = c₄.before.before.before.before in
-    let c₂ = c₃.before.before.before.before in
-    let c₁ = c₂.before.before.before.before in
-    let a = (tested (eighth c)).before.before in
-    let state = a.args.s in
-    let m = a.args.dst.now in
-    let fit : length m ≡ image_length = (tested (eighth c)).if1.false in
+returns c =
+    let state = c.args.s in
+    let m = c.args.dst.now in
+    let fit : length m ≡ image_length = c.if-dst-ne-IMAGE_LENGTH.false in
     rw (eq-eqb (length m) image_length fit)
     (ap (write_outcome Written)
-    (rw (c₁₅.put-u32.ensures, c₁₅.before.wide8.ensures.0, c₁₄.put-states.ensures, c₁₃.put_entries.ensures, c₁₂.put-u162.ensures, c₁₁.put-u16.ensures, c₁₀.put-u84.ensures, c₉.put-u83.ensures, c₈.put-u82.ensures, c₇.put-u8.ensures, c₆.put-lights.ensures, c₅.put-material.ensures, c₄.put-textures.ensures, c₃.put-palette.ensures, c₂.put-matrix2.ensures, c₁.put-matrix.ensures)
-    (placed_all image_length (image_table state) m (image-tiles state (sized a)) fit)))
+    (rw (c.put_u32.ensures, c.wide8.ensures.0, c.put_states.ensures, c.put_entries.ensures, c.put_u16-2.ensures, c.put_u16.ensures, c.put_u8-4.ensures, c.put_u8-3.ensures, c.put_u8-2.ensures, c.put_u8.ensures, c.put_lights.ensures, c.put_material.ensures, c.put_textures.ensures, c.put_palette.ensures, c.put_matrix-2.ensures, c.put_matrix.ensures)
+    (placed_all image_length (image_table state) m (image-tiles state (record {
+      palette = c.well_formed.0.1.1.1.1.0.1.0.1;
+      texture = c.well_formed.0.1.1.1.1.1.1.0.1.0.1;
+      lights = c.well_formed.0.1.1.1.1.1.1.1.1.0.1.0.1;
+      overflow = c.well_formed.0.1.1.1.1.1.1.1.1.1.1.1.1.1.1.0.1.0.1;
+    })) fit)))
 
 pub write_image_spec : {M : Type 1} → statement M
 write_image_spec =
     tie.close
     (tie.spec
-    returns
-    put-matrix-requires
-    put-matrix-requires-2
-    put-palette-requires
-    put-textures-requires
-    put-material-requires
-    put-lights-requires
-    put-u8-requires
-    put-u8-requires-2
-    put-u8-requires-3
-    put-u8-requires-4
-    put-u16-requires
-    put-u16-requires-2
-    put-entries-requires
-    put-states-requires
+    returns-then-dst-ne-IMAGE_LENGTH
+    put_matrix-requires
+    put_matrix-requires-2
+    put_palette-requires
+    put_textures-requires
+    put_material-requires
+    put_lights-requires
+    put_u8-requires
+    put_u8-requires-2
+    put_u8-requires-3
+    put_u8-requires-4
+    put_u16-requires
+    put_u16-requires-2
+    put_entries-requires
+    put_states-requires
     wide8-requires
-    put-u32-requires
-    same_length
-    returns-2)
+    put_u32-requires
+    shape_of-dst
+    returns)

@@ -7,17 +7,21 @@ use borrow.Author.Rules.{rules}
 use Rattle.packing.proofs.answer.is_length.Statement.{statement}
 use Rattle.packing.proofs.answer.is_length.Tie as tie
 
-section-rows-requires : tie.Need-section-rows-requires
-section-rows-requires c κs = search rules
+section_rows-rows-requires : tie.Need-section_rows-rows-requires
+section_rows-rows-requires c κs = search rules
 
-cast-result : tie.Need-overflow-cast-result
-cast-result c = search rules
+overflow_cast-result : tie.Need-overflow_cast-result
+overflow_cast-result c = search rules
 
-mul-result : tie.Need-overflow-mul-result
-mul-result c = search rules
+overflow_mul-result : tie.Need-overflow_mul-result
+overflow_mul-result c = search rules
 
 returns : tie.Need-returns
-returns c = ap (λ (n : ℕ). eqb c.before.args.length (4 * n)) c.section-rows.ensures
+returns c = ap (λ (n : ℕ). eqb c.before.args.length (4 * n)) c.section_rows-rows.ensures
 
 pub is_length_spec : {M : Type 1} → statement M
-is_length_spec = tie.close (tie.spec section-rows-requires cast-result mul-result returns)
+is_length_spec = tie.close (tie.spec
+    section_rows-rows-requires
+    overflow_cast-result
+    overflow_mul-result
+    returns)

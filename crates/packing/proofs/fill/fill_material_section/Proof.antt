@@ -3,7 +3,7 @@
 use Rattle.sections.specs.declared.sections.Section.TheVariants.{Material}
 use mathlib.Core.Path.{refl, sym, ap, ◌∙◌}
 use Rattle.packing.specs.Inputs.{packed_rows, mask_accepted}
-use Rattle.packing.proofs.Outcomes.{Passed, failed, passed}
+use Rattle.packing.proofs.Outcomes.{failed, passed}
 use Prim.Native.Nat.{◌*◌}
 use Rattle.sections.specs.Counts.{material_count}
 use Rattle.packing.proofs.Lengths.{material-rows}
@@ -11,30 +11,31 @@ use borrow.Author.Rules.{rules}
 use Rattle.packing.proofs.fill.fill_material_section.Statement.{statement}
 use Rattle.packing.proofs.fill.fill_material_section.Tie as tie
 
-ok : (c : tie.Else1) → Passed Material c.before.before.before.args.s c.before.before.before.args.key c.before.before.before.args.dst.now
-ok c = passed _ _ _ _ c.before.is-length.ensures c.if1.false
+is_length-requires : tie.Need-is_length-requires
+is_length-requires c κs = search rules
 
-is-length-requires : tie.Need-is-length-requires
-is-length-requires c κs = search rules
+returns-then-not-is_length : tie.Need-returns-then-not-is_length
+returns-then-not-is_length c = failed Material _ _ _ c.is_length.ensures c.if-not-is_length.true
+
+write_material-requires : tie.Need-write_material-requires
+unfolding material_count
+write_material-requires c κs =
+    let a = c.args in
+    (passed Material c.args.s c.args.key c.args.dst.now c.is_length.ensures c.if-not-is_length.false).long ∙ ap (λ n. 4 * n) (sym (material-rows a.key.lighting_enabled a.key.specular_enable a.s.material))
+
+shape_of-dst : tie.Need-shape_of-dst
+shape_of-dst c = search rules
 
 returns : tie.Need-returns
-returns c = failed Material _ _ _ c.before.is-length.ensures c.if1.true
-
-write-material-requires : tie.Need-write-material-requires
-unfolding material_count
-write-material-requires c κs =
-    let a = c.before.before.before.before.args in
-    (ok c.before).long ∙ ap (λ n. 4 * n) (sym (material-rows a.key.lighting_enabled a.key.specular_enable a.s.material))
-
-same_length : tie.Need-same-length
-same_length c = search rules
-
-returns-2 : tie.Need-returns-2
 unfolding packed_rows mask_accepted
-returns-2 c =
-    let wrote = c.before.before in
-    (ok wrote.before.before).packs refl _ wrote.write-material.ensures
+returns c =
+    (passed Material c.args.s c.args.key c.args.dst.now c.is_length.ensures c.if-not-is_length.false).packs refl _ c.write_material.ensures
 
 pub fill_material_section_spec : {M : Type 1} → statement M
 fill_material_section_spec =
-    tie.close (tie.spec is-length-requires returns write-material-requires same_length returns-2)
+    tie.close (tie.spec
+    is_length-requires
+    returns-then-not-is_length
+    write_material-requires
+    shape_of-dst
+    returns)

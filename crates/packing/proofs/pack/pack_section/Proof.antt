@@ -14,135 +14,135 @@ use Rattle.packing.proofs.pack.pack_section.Tie as tie
 named : (σ τ : Section) (s : FfState) (k : FfVsKey) (dst : List Float) {o : PackOutcome} → σ ≡ τ → o ≡ pack_section τ s k dst → o ≡ pack_section σ s k dst
 named σ τ s k dst e is = is ∙ ap (λ (x : Section). pack_section x s k dst) (sym e)
 
-enum_told : tie.Need-enum-told
-enum_told c = search rules
+enum_told-1 : tie.Need-enum_told-1
+enum_told-1 c = search rules
 
-fill-wv-section-requires : tie.Need-fill-wv-section-requires
-fill-wv-section-requires c κs = search rules
+fill_wv_section-requires : tie.Need-fill_wv_section-requires
+fill_wv_section-requires c κs = search rules
 
-same_length : tie.Need-same-length
-same_length c = search rules
+shape_of-dst-in-Wv : tie.Need-shape_of-dst-in-Wv
+shape_of-dst-in-Wv c = search rules
 
-returns : tie.Need-returns
-returns c = let told = c.before.before.before.before in named _ _ _ _ _ told.enum_told.given.1 c.before.before.fill-wv-section.ensures
+returns-in-Wv : tie.Need-returns-in-Wv
+returns-in-Wv c = let told = c in named _ _ _ _ _ told.in-Wv.is c.fill_wv_section.ensures
 
-enum-told-2 : tie.Need-enum-told-2
-enum-told-2 c = search rules
+enum_told-in-Proj : tie.Need-enum_told-in-Proj
+enum_told-in-Proj c = search rules
 
-fill-proj-section-requires : tie.Need-fill-proj-section-requires
-fill-proj-section-requires c κs = search rules
+fill_proj_section-requires : tie.Need-fill_proj_section-requires
+fill_proj_section-requires c κs = search rules
 
-same-length-2 : tie.Need-same-length-2
-same-length-2 c = search rules
+shape_of-dst-in-Proj : tie.Need-shape_of-dst-in-Proj
+shape_of-dst-in-Proj c = search rules
 
-returns-2 : tie.Need-returns-2
-returns-2 c = let told = c.before.before.before.before in named _ _ _ _ _ told.enum-told2.given.1 c.before.before.fill-proj-section.ensures
+returns-in-Proj : tie.Need-returns-in-Proj
+returns-in-Proj c = let told = c in named _ _ _ _ _ told.in-Proj.is c.fill_proj_section.ensures
 
-enum-told-3 : tie.Need-enum-told-3
-enum-told-3 c = search rules
+enum_told-in-Material : tie.Need-enum_told-in-Material
+enum_told-in-Material c = search rules
 
-fill-material-section-requires : tie.Need-fill-material-section-requires
-fill-material-section-requires c κs = search rules
+fill_material_section-requires : tie.Need-fill_material_section-requires
+fill_material_section-requires c κs = search rules
 
-same-length-3 : tie.Need-same-length-3
-same-length-3 c = search rules
+shape_of-dst-in-Material : tie.Need-shape_of-dst-in-Material
+shape_of-dst-in-Material c = search rules
 
-returns-3 : tie.Need-returns-3
-returns-3 c = let told = c.before.before.before.before in named _ _ _ _ _ told.enum-told3.given.1 c.before.before.fill-material-section.ensures
+returns-in-Material : tie.Need-returns-in-Material
+returns-in-Material c = let told = c in named _ _ _ _ _ told.in-Material.is c.fill_material_section.ensures
 
-enum-told-4 : tie.Need-enum-told-4
-enum-told-4 c = search rules
+enum_told-in-Lights : tie.Need-enum_told-in-Lights
+enum_told-in-Lights c = search rules
 
-fill-lights-section-requires : tie.Need-fill-lights-section-requires
-fill-lights-section-requires c κs = search rules
+fill_lights_section-requires : tie.Need-fill_lights_section-requires
+fill_lights_section-requires c κs = search rules
 
-same-length-4 : tie.Need-same-length-4
-same-length-4 c = search rules
+shape_of-dst-in-Lights : tie.Need-shape_of-dst-in-Lights
+shape_of-dst-in-Lights c = search rules
 
-returns-4 : tie.Need-returns-4
-returns-4 c = let told = c.before.before.before.before in named _ _ _ _ _ told.enum-told4.given.1 c.before.before.fill-lights-section.ensures
+returns-in-Lights : tie.Need-returns-in-Lights
+returns-in-Lights c = let told = c in named _ _ _ _ _ told.in-Lights.is c.fill_lights_section.ensures
 
-enum-told-5 : tie.Need-enum-told-5
-enum-told-5 c = search rules
+enum_told-in-Palette : tie.Need-enum_told-in-Palette
+enum_told-in-Palette c = search rules
 
-fill-palette-section-requires : tie.Need-fill-palette-section-requires
-fill-palette-section-requires c κs = search rules
+fill_palette_section-requires : tie.Need-fill_palette_section-requires
+fill_palette_section-requires c κs = search rules
 
-same-length-5 : tie.Need-same-length-5
-same-length-5 c = search rules
+shape_of-dst-in-Palette : tie.Need-shape_of-dst-in-Palette
+shape_of-dst-in-Palette c = search rules
 
-returns-5 : tie.Need-returns-5
-returns-5 c = let told = c.before.before.before.before in named _ _ _ _ _ told.enum-told5.given.1 c.before.before.fill-palette-section.ensures
+returns-in-Palette : tie.Need-returns-in-Palette
+returns-in-Palette c = let told = c in named _ _ _ _ _ told.in-Palette.is c.fill_palette_section.ensures
 
-enum-told-6 : tie.Need-enum-told-6
-enum-told-6 c = search rules
+enum_told-in-Tt : tie.Need-enum_told-in-Tt
+enum_told-in-Tt c = search rules
 
-fill-tt-section-requires : tie.Need-fill-tt-section-requires
-fill-tt-section-requires c κs = search rules
+fill_tt_section-requires : tie.Need-fill_tt_section-requires
+fill_tt_section-requires c κs = search rules
 
-same-length-6 : tie.Need-same-length-6
-same-length-6 c = search rules
+shape_of-dst-in-Tt : tie.Need-shape_of-dst-in-Tt
+shape_of-dst-in-Tt c = search rules
 
-returns-6 : tie.Need-returns-6
-returns-6 c = let told = c.before.before.before.before in named _ _ _ _ _ told.enum-told6.given.1 c.before.before.fill-tt-section.ensures
+returns-in-Tt : tie.Need-returns-in-Tt
+returns-in-Tt c = let told = c in named _ _ _ _ _ told.in-Tt.is c.fill_tt_section.ensures
 
-enum-told-7 : tie.Need-enum-told-7
-enum-told-7 c = search rules
+enum_told-in-Fog : tie.Need-enum_told-in-Fog
+enum_told-in-Fog c = search rules
 
-fill-fog-section-requires : tie.Need-fill-fog-section-requires
-fill-fog-section-requires c κs = search rules
+fill_fog_section-requires : tie.Need-fill_fog_section-requires
+fill_fog_section-requires c κs = search rules
 
-same-length-7 : tie.Need-same-length-7
-same-length-7 c = search rules
+shape_of-dst-in-Fog : tie.Need-shape_of-dst-in-Fog
+shape_of-dst-in-Fog c = search rules
 
-returns-7 : tie.Need-returns-7
-returns-7 c = let told = c.before.before.before.before in named _ _ _ _ _ told.enum-told7.given.1 c.before.before.fill-fog-section.ensures
+returns-in-Fog : tie.Need-returns-in-Fog
+returns-in-Fog c = let told = c in named _ _ _ _ _ told.in-Fog.is c.fill_fog_section.ensures
 
-enum-told-8 : tie.Need-enum-told-8
-enum-told-8 c = search rules
+enum_told-in-Ambient : tie.Need-enum_told-in-Ambient
+enum_told-in-Ambient c = search rules
 
-fill-ambient-section-requires : tie.Need-fill-ambient-section-requires
-fill-ambient-section-requires c κs = search rules
+fill_ambient_section-requires : tie.Need-fill_ambient_section-requires
+fill_ambient_section-requires c κs = search rules
 
-same-length-8 : tie.Need-same-length-8
-same-length-8 c = search rules
+shape_of-dst-in-Ambient : tie.Need-shape_of-dst-in-Ambient
+shape_of-dst-in-Ambient c = search rules
 
-returns-8 : tie.Need-returns-8
-returns-8 c = let told = c.before.before.before.before in named _ _ _ _ _ told.enum-told8.given.1 c.before.before.fill-ambient-section.ensures
+returns-in-Ambient : tie.Need-returns-in-Ambient
+returns-in-Ambient c = let told = c in named _ _ _ _ _ told.in-Ambient.is c.fill_ambient_section.ensures
 
 pub pack_section_spec : {M : Type 1} → statement M
 pack_section_spec =
     tie.close
     (tie.spec
-    enum_told
-    fill-wv-section-requires
-    same_length
-    returns
-    enum-told-2
-    fill-proj-section-requires
-    same-length-2
-    returns-2
-    enum-told-3
-    fill-material-section-requires
-    same-length-3
-    returns-3
-    enum-told-4
-    fill-lights-section-requires
-    same-length-4
-    returns-4
-    enum-told-5
-    fill-palette-section-requires
-    same-length-5
-    returns-5
-    enum-told-6
-    fill-tt-section-requires
-    same-length-6
-    returns-6
-    enum-told-7
-    fill-fog-section-requires
-    same-length-7
-    returns-7
-    enum-told-8
-    fill-ambient-section-requires
-    same-length-8
-    returns-8)
+    enum_told-1
+    fill_wv_section-requires
+    shape_of-dst-in-Wv
+    returns-in-Wv
+    enum_told-in-Proj
+    fill_proj_section-requires
+    shape_of-dst-in-Proj
+    returns-in-Proj
+    enum_told-in-Material
+    fill_material_section-requires
+    shape_of-dst-in-Material
+    returns-in-Material
+    enum_told-in-Lights
+    fill_lights_section-requires
+    shape_of-dst-in-Lights
+    returns-in-Lights
+    enum_told-in-Palette
+    fill_palette_section-requires
+    shape_of-dst-in-Palette
+    returns-in-Palette
+    enum_told-in-Tt
+    fill_tt_section-requires
+    shape_of-dst-in-Tt
+    returns-in-Tt
+    enum_told-in-Fog
+    fill_fog_section-requires
+    shape_of-dst-in-Fog
+    returns-in-Fog
+    enum_told-in-Ambient
+    fill_ambient_section-requires
+    shape_of-dst-in-Ambient
+    returns-in-Ambient)

@@ -42,15 +42,12 @@ with_dirty-self-requires c κs = search rules
 returns : tie.Need-returns
 unfolding multiply_transform change_at
 returns c =
-    let product = c in
-    let known = product in
-    let at = known in
-    let p = known.in-At.place in
-    rw (← at.slot_of.ensures, known.in-At.is)
+    let p = c.in-At.place in
+    rw (← c.slot_of.ensures, c.in-At.is)
     (ap accepted
     (c.with_dirty-self.ensures
     ∙ ap₂ dirtied
-    (c.placed_at-self.ensures ∙ ap (λ (m : D3DMATRIX). placed at.args.self p m) (product.mat_mul-product.ensures ∙ ap (mat_mul at.args.m) product.place_matrix.ensures))
+    (c.placed_at-self.ensures ∙ ap (λ (m : D3DMATRIX). placed c.args.self p m) (c.mat_mul-product.ensures ∙ ap (mat_mul c.args.m) c.place_matrix.ensures))
     c.place_bits.ensures))
 
 pub multiply_transform_spec : {M : Type 1} → statement M

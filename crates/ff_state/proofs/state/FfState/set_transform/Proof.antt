@@ -32,9 +32,7 @@ with_dirty-self-requires c κs = search rules
 returns : tie.Need-returns
 unfolding set_transform change_at
 returns c =
-    let known = c in
-    let at = known in
-    rw (← at.slot_of.ensures, known.in-At.is)
+    rw (← c.slot_of.ensures, c.in-At.is)
     (ap accepted (c.with_dirty-self.ensures ∙ ap₂ dirtied c.placed_at-self.ensures c.place_bits.ensures))
 
 pub set_transform_spec : {M : Type 1} → statement M

@@ -26,8 +26,7 @@ place_matrix-requires c κs = in-range _ _ (sym c.slot_of.ensures ∙ c.in-At.is
 returns : tie.Need-returns
 unfolding transform_of read_at
 returns c =
-    let known = c in
-    rw (← known.slot_of.ensures, known.in-At.is) (ap Matrix c.place_matrix.ensures)
+    rw (← c.slot_of.ensures, c.in-At.is) (ap Matrix c.place_matrix.ensures)
 
 pub transform_spec : {M : Type 1} → statement M
 transform_spec =
