@@ -6,16 +6,19 @@ use borrow.Author.Rules.{rules}
 use Rattle.calls.proofs.images.image_check.Statement.{statement}
 use Rattle.calls.proofs.images.image_check.Tie as tie
 
-image-refused-requires : tie.Need-image-refused-requires
-image-refused-requires c κs = search rules
+image_refused-requires : tie.Need-image_refused-requires
+image_refused-requires c κs = search rules
+
+returns-then-image_refused : tie.Need-returns-then-image_refused
+returns-then-image_refused c =
+    sym (code-nine _ _ _ (sym c.image_refused.ensures ∙ c.if-image_refused.true))
 
 returns : tie.Need-returns
 returns c =
-    sym (code-nine _ _ _ (sym c.before.image-refused.ensures ∙ c.if1.true))
-
-returns-2 : tie.Need-returns-2
-returns-2 c =
-    sym (code-length _ _ _ (sym c.before.image-refused.ensures ∙ c.if1.false) refl)
+    sym (code-length _ _ _ (sym c.image_refused.ensures ∙ c.if-image_refused.false) refl)
 
 pub image_check_spec : {M : Type 1} → statement M
-image_check_spec = tie.close (tie.spec image-refused-requires returns returns-2)
+image_check_spec = tie.close (tie.spec
+    image_refused-requires
+    returns-then-image_refused
+    returns)

@@ -10,32 +10,38 @@ use Rattle.calls.proofs.images.image_fresh.Tie as tie
 new-requires : tie.Need-new-requires
 new-requires c κs = search rules
 
-write-image-requires : tie.Need-write-image-requires
-write-image-requires c κs = search rules
+write_image-answer-requires : tie.Need-write_image-answer-requires
+write_image-answer-requires c κs = search rules
 
-enum_told : tie.Need-enum-told
-enum_told c = search rules
+enum_told-1 : tie.Need-enum_told-1
+enum_told-1 c = search rules
 
-enum-told-2 : tie.Need-enum-told-2
-enum-told-2 c = search rules
+enum_told-in-WrongLength : tie.Need-enum_told-in-WrongLength
+enum_told-in-WrongLength c = search rules
 
-same_length : tie.Need-same-length
-same_length c = search rules
+shape_of-image-in-Written : tie.Need-shape_of-image-in-Written
+shape_of-image-in-Written c = search rules
 
-returns : tie.Need-returns
+returns-in-Written : tie.Need-returns-in-Written
 unfolding write_number
-returns c =
-    let at_new = c.before.before.before.before.before.before in
-    fresh_written _ at_new.new.ensures c.before.before.before.before.write-image.ensures (ap write_number c.enum_told.given.1)
+returns-in-Written c =
+    fresh_written _ c.new.ensures c.write_image-answer.ensures (ap write_number c.in-Written.is)
 
-same-length-2 : tie.Need-same-length-2
-same-length-2 c = search rules
+shape_of-image-in-WrongLength : tie.Need-shape_of-image-in-WrongLength
+shape_of-image-in-WrongLength c = search rules
 
-returns-2 : tie.Need-returns-2
+returns-in-WrongLength : tie.Need-returns-in-WrongLength
 unfolding write_number
-returns-2 c =
-    let at_new = c.before.before.before.before.before.before in
-    fresh_written _ at_new.new.ensures c.before.before.before.before.write-image.ensures (ap write_number c.enum-told2.given.1)
+returns-in-WrongLength c =
+    fresh_written _ c.new.ensures c.write_image-answer.ensures (ap write_number c.in-WrongLength.is)
 
 pub image_fresh_spec : {M : Type 1} → statement M
-image_fresh_spec = tie.close (tie.spec new-requires write-image-requires enum_told enum-told-2 same_length returns same-length-2 returns-2)
+image_fresh_spec = tie.close (tie.spec
+    new-requires
+    write_image-answer-requires
+    enum_told-1
+    enum_told-in-WrongLength
+    shape_of-image-in-Written
+    returns-in-Written
+    shape_of-image-in-WrongLength
+    returns-in-WrongLength)

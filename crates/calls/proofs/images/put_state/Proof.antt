@@ -5,16 +5,18 @@ use borrow.Author.Rules.{rules}
 use Rattle.calls.proofs.images.put_state.Statement.{statement}
 use Rattle.calls.proofs.images.put_state.Tie as tie
 
-write-image-requires : tie.Need-write-image-requires
-write-image-requires c κs = search rules
+write_image-requires : tie.Need-write_image-requires
+write_image-requires c κs = search rules
 
-same_length : tie.Need-same-length
-same_length c = search rules
+shape_of-image : tie.Need-shape_of-image
+shape_of-image c = search rules
 
 returns : tie.Need-returns
 returns c =
-    let entry = c.before.before.before.before.before in
-    written _ _ entry.requires c.before.before.write-image.ensures
+    written _ _ c.requires c.write_image.ensures
 
 pub put_state_spec : {M : Type 1} → statement M
-put_state_spec = tie.close (tie.spec write-image-requires same_length returns)
+put_state_spec = tie.close (tie.spec
+    write_image-requires
+    shape_of-image
+    returns)

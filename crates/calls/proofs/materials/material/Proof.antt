@@ -10,48 +10,46 @@ use borrow.Author.Rules.{rules}
 use Rattle.calls.proofs.materials.material.Statement.{statement}
 use Rattle.calls.proofs.materials.material.Tie as tie
 
-image-refused-requires : tie.Need-image-refused-requires
-image-refused-requires c κs = search rules
+image_refused-requires : tie.Need-image_refused-requires
+image_refused-requires c κs = search rules
+
+returns-then-image_refused : tie.Need-returns-then-image_refused
+returns-then-image_refused c =
+    reading-nine _ _ _ _ _ (sym c.image_refused.ensures ∙ c.if-image_refused.true)
+
+returns-then-out-ne-MATERIAL_BYTES : tie.Need-returns-then-out-ne-MATERIAL_BYTES
+returns-then-out-ne-MATERIAL_BYTES c =
+    reading-length _ _ _ _ _ (sym c.image_refused.ensures ∙ c.if-image_refused.false) refl (length_wrong 68 _ c.if-out-ne-MATERIAL_BYTES.true)
+
+state_of-s-requires : tie.Need-state_of-s-requires
+state_of-s-requires c κs =
+    image_fits _ (sym c.image_refused.ensures ∙ c.if-image_refused.false)
+
+material-m-requires : tie.Need-material-m-requires
+material-m-requires c κs = search rules
+
+put_material-requires : tie.Need-put_material-requires
+put_material-requires c κs = search rules
+
+shape_of-out : tie.Need-shape_of-out
+shape_of-out c = search rules
 
 returns : tie.Need-returns
 returns c =
-    reading-nine _ _ _ _ _ (sym c.before.image-refused.ensures ∙ c.if1.true)
-
-returns-2 : tie.Need-returns-2
-returns-2 c =
-    reading-length _ _ _ _ _ (sym c.before.before.image-refused.ensures ∙ c.before.if1.false) refl (length_wrong 68 _ c.if2.true)
-
-state-of-requires : tie.Need-state-of-requires
-state-of-requires c κs =
-    image_fits _ (sym c.before.before.image-refused.ensures ∙ c.before.if1.false)
-
-material-requires : tie.Need-material-requires
-material-requires c κs = search rules
-
-put-material-requires : tie.Need-put-material-requires
-put-material-requires c κs = search rules
-
-same_length : tie.Need-same-length
-same_length c = search rules
-
-returns-3 : tie.Need-returns-3
-returns-3 c =
-    let at-state-of = c.before.before.before.before.before in
-    let t = c.before.before.before.before.before.before in
-    reading-done _ _ _ _ _ (sym t.before.before.image-refused.ensures ∙ t.before.if1.false) refl (length_right 68 _ t.if2.false)
-    (c.before.before.put-material.ensures
-    ∙ put-material_bytes _ _ t.if2.false
-    ∙ ap material_bytes (c.before.before.before.before.material.ensures ∙ ap (λ (s : FfState). s.material) at-state-of.state-of.ensures))
+    reading-done _ _ _ _ _ (sym c.image_refused.ensures ∙ c.if-image_refused.false) refl (length_right 68 _ c.if-out-ne-MATERIAL_BYTES.false)
+    (c.put_material.ensures
+    ∙ put-material_bytes _ _ c.if-out-ne-MATERIAL_BYTES.false
+    ∙ ap material_bytes (c.material-m.ensures ∙ ap (λ (s : FfState). s.material) c.state_of-s.ensures))
 
 pub material_spec : {M : Type 1} → statement M
 material_spec =
     tie.close
     (tie.spec
-    image-refused-requires
-    returns
-    returns-2
-    state-of-requires
-    material-requires
-    put-material-requires
-    same_length
-    returns-3)
+    image_refused-requires
+    returns-then-image_refused
+    returns-then-out-ne-MATERIAL_BYTES
+    state_of-s-requires
+    material-m-requires
+    put_material-requires
+    shape_of-out
+    returns)

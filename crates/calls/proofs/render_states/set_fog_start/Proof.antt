@@ -7,51 +7,47 @@ use borrow.Author.Rules.{rules}
 use Rattle.calls.proofs.render_states.set_fog_start.Statement.{statement}
 use Rattle.calls.proofs.render_states.set_fog_start.Tie as tie
 
-image-refused-requires : tie.Need-image-refused-requires
-image-refused-requires c κs = search rules
+image_refused-requires : tie.Need-image_refused-requires
+image_refused-requires c κs = search rules
 
-same_length : tie.Need-same-length
-same_length c = search rules
+shape_of-image-then-image_refused : tie.Need-shape_of-image-then-image_refused
+shape_of-image-then-image_refused c = search rules
+
+returns-then-image_refused : tie.Need-returns-then-image_refused
+returns-then-image_refused c =
+    changing-nine _ _ _ (sym c.image_refused.ensures ∙ c.if-image_refused.true)
+
+state_of-s-requires : tie.Need-state_of-s-requires
+state_of-s-requires c κs =
+    image_fits _ (sym c.image_refused.ensures ∙ c.if-image_refused.false)
+
+of_bits-requires : tie.Need-of_bits-requires
+of_bits-requires c κs = search rules
+
+set_fog_start-t-requires : tie.Need-set_fog_start-t-requires
+set_fog_start-t-requires c κs = search rules
+
+put_state-requires : tie.Need-put_state-requires
+put_state-requires c κs =
+    image_long _ (sym c.image_refused.ensures ∙ c.if-image_refused.false)
+
+shape_of-image : tie.Need-shape_of-image
+shape_of-image c = search rules
 
 returns : tie.Need-returns
 returns c =
-    changing-nine _ _ _ (sym c.before.image-refused.ensures ∙ c.if1.true)
-
-state-of-requires : tie.Need-state-of-requires
-state-of-requires c κs =
-    image_fits _ (sym c.before.before.image-refused.ensures ∙ c.before.if1.false)
-
-of-bits-requires : tie.Need-of-bits-requires
-of-bits-requires c κs = search rules
-
-set-fog-start-requires : tie.Need-set-fog-start-requires
-set-fog-start-requires c κs = search rules
-
-put-state-requires : tie.Need-put-state-requires
-put-state-requires c κs =
-    let past = c.before.before.before.before.before in
-    image_long _ (sym past.before.image-refused.ensures ∙ past.if1.false)
-
-same-length-2 : tie.Need-same-length-2
-same-length-2 c = search rules
-
-returns-2 : tie.Need-returns-2
-returns-2 c =
-    let set = c.before.before.before.before in
-    let read = set.before.before in
-    let past = read.before.before in
-    setting-done set_fog_start _ _ (sym past.before.image-refused.ensures ∙ past.if1.false) read.state-of.ensures set.before.of-bits.ensures set.set-fog-start.ensures c.before.before.put-state.ensures
+    setting-done set_fog_start _ _ (sym c.image_refused.ensures ∙ c.if-image_refused.false) c.state_of-s.ensures c.of_bits.ensures c.set_fog_start-t.ensures c.put_state.ensures
 
 pub set_fog_start_spec : {M : Type 1} → statement M
 set_fog_start_spec =
     tie.close
     (tie.spec
-    image-refused-requires
-    same_length
-    returns
-    state-of-requires
-    of-bits-requires
-    set-fog-start-requires
-    put-state-requires
-    same-length-2
-    returns-2)
+    image_refused-requires
+    shape_of-image-then-image_refused
+    returns-then-image_refused
+    state_of-s-requires
+    of_bits-requires
+    set_fog_start-t-requires
+    put_state-requires
+    shape_of-image
+    returns)

@@ -7,47 +7,43 @@ use borrow.Author.Rules.{rules}
 use Rattle.calls.proofs.render_states.set_texture_mask.Statement.{statement}
 use Rattle.calls.proofs.render_states.set_texture_mask.Tie as tie
 
-image-refused-requires : tie.Need-image-refused-requires
-image-refused-requires c κs = search rules
+image_refused-requires : tie.Need-image_refused-requires
+image_refused-requires c κs = search rules
 
-same_length : tie.Need-same-length
-same_length c = search rules
+shape_of-image-then-image_refused : tie.Need-shape_of-image-then-image_refused
+shape_of-image-then-image_refused c = search rules
+
+returns-then-image_refused : tie.Need-returns-then-image_refused
+returns-then-image_refused c =
+    changing-nine _ _ _ (sym c.image_refused.ensures ∙ c.if-image_refused.true)
+
+state_of-s-requires : tie.Need-state_of-s-requires
+state_of-s-requires c κs =
+    image_fits _ (sym c.image_refused.ensures ∙ c.if-image_refused.false)
+
+set_texture_mask-t-requires : tie.Need-set_texture_mask-t-requires
+set_texture_mask-t-requires c κs = search rules
+
+put_state-requires : tie.Need-put_state-requires
+put_state-requires c κs =
+    image_long _ (sym c.image_refused.ensures ∙ c.if-image_refused.false)
+
+shape_of-image : tie.Need-shape_of-image
+shape_of-image c = search rules
 
 returns : tie.Need-returns
 returns c =
-    changing-nine _ _ _ (sym c.before.image-refused.ensures ∙ c.if1.true)
-
-state-of-requires : tie.Need-state-of-requires
-state-of-requires c κs =
-    image_fits _ (sym c.before.before.image-refused.ensures ∙ c.before.if1.false)
-
-set-texture-mask-requires : tie.Need-set-texture-mask-requires
-set-texture-mask-requires c κs = search rules
-
-put-state-requires : tie.Need-put-state-requires
-put-state-requires c κs =
-    let past = c.before.before.before.before in
-    image_long _ (sym past.before.image-refused.ensures ∙ past.if1.false)
-
-same-length-2 : tie.Need-same-length-2
-same-length-2 c = search rules
-
-returns-2 : tie.Need-returns-2
-returns-2 c =
-    let set = c.before.before.before.before in
-    let read = set.before in
-    let past = read.before.before in
-    setting-done set_texture_mask _ _ (sym past.before.image-refused.ensures ∙ past.if1.false) read.state-of.ensures refl set.set-texture-mask.ensures c.before.before.put-state.ensures
+    setting-done set_texture_mask _ _ (sym c.image_refused.ensures ∙ c.if-image_refused.false) c.state_of-s.ensures refl c.set_texture_mask-t.ensures c.put_state.ensures
 
 pub set_texture_mask_spec : {M : Type 1} → statement M
 set_texture_mask_spec =
     tie.close
     (tie.spec
-    image-refused-requires
-    same_length
-    returns
-    state-of-requires
-    set-texture-mask-requires
-    put-state-requires
-    same-length-2
-    returns-2)
+    image_refused-requires
+    shape_of-image-then-image_refused
+    returns-then-image_refused
+    state_of-s-requires
+    set_texture_mask-t-requires
+    put_state-requires
+    shape_of-image
+    returns)

@@ -15,26 +15,30 @@ use borrow.Author.Rules.{rules}
 use Rattle.refresh.proofs.answer.mask_accepted.Statement.{statement}
 use Rattle.refresh.proofs.answer.mask_accepted.Tie as tie
 
-returns : tie.Need-returns
+returns-then-mask-eq0 : tie.Need-returns-then-mask-eq0
 unfolding mask_accepted
-returns c = rw (eq-eqb _ _ c.if1.true)
+returns-then-mask-eq0 c = rw (eq-eqb _ _ c.if-mask-eq0.true)
 
-resolve-active-lights-requires : tie.Need-resolve-active-lights-requires
-resolve-active-lights-requires c κs = search rules
+resolve_active_lights-list-requires : tie.Need-resolve_active_lights-list-requires
+resolve_active_lights-list-requires c κs = search rules
 
-low-bits-requires : tie.Need-low-bits-requires
+low_bits-requires : tie.Need-low_bits-requires
 unfolding resolve_active_lights
-low-bits-requires c κs =
+low_bits-requires c κs =
     let a = c.before.before.args in
-    subst (λ (l : ActiveLights). l.len ≤ 8) (sym c.resolve-active-lights.ensures) (listed_len (light_limit a.key) (limit_small a.key) (active_lights a.s))
+    subst (λ (l : ActiveLights). l.len ≤ 8) (sym c.resolve_active_lights-list.ensures) (listed_len (light_limit a.key) (limit_small a.key) (active_lights a.s))
 
-returns-2 : tie.Need-returns-2
+returns : tie.Need-returns
 unfolding mask_accepted masks_of resolve_active_lights listed
-returns-2 c =
+returns c =
     let list = c.before in
     let a = list.before.before.args in
-    rw (ne_eqb _ _ list.before.if1.false)
-    (ap (eqb a.key.light_active_mask) (c.low-bits.ensures ∙ ap (λ (l : ActiveLights). low_bits l.len) list.resolve-active-lights.ensures))
+    rw (ne_eqb _ _ list.before.if-mask-eq0.false)
+    (ap (eqb a.key.light_active_mask) (c.low_bits.ensures ∙ ap (λ (l : ActiveLights). low_bits l.len) list.resolve_active_lights-list.ensures))
 
 pub mask_accepted_spec : {M : Type 1} → statement M
-mask_accepted_spec = tie.close (tie.spec returns resolve-active-lights-requires low-bits-requires returns-2)
+mask_accepted_spec = tie.close (tie.spec
+    returns-then-mask-eq0
+    resolve_active_lights-list-requires
+    low_bits-requires
+    returns)

@@ -7,21 +7,26 @@ use borrow.Author.Rules.{rules}
 use Rattle.refresh.proofs.answer.refresh_answer.Statement.{statement}
 use Rattle.refresh.proofs.answer.refresh_answer.Tie as tie
 
+returns-then-length-ne4460 : tie.Need-returns-then-length-ne4460
+returns-then-length-ne4460 c = sym (by-tests _ _ _ (ne_eqb _ _ c.if-length-ne4460.true) refl refl)
+
+returns-then-key : tie.Need-returns-then-key
+returns-then-key c = sym (by-tests _ _ _ (eq-eqb _ _ c.before.if-length-ne4460.false) c.if-key.true refl)
+
+mask_accepted-requires : tie.Need-mask_accepted-requires
+mask_accepted-requires c κs = search rules
+
+returns-then-mask_accepted : tie.Need-returns-then-mask_accepted
+returns-then-mask_accepted c = sym (by-tests _ _ _ (eq-eqb _ _ c.before.before.before.if-length-ne4460.false) c.before.before.if-key.false (sym c.before.mask_accepted.ensures ∙ c.if-mask_accepted.true))
+
 returns : tie.Need-returns
-returns c = sym (by-tests _ _ _ (ne_eqb _ _ c.if1.true) refl refl)
-
-returns-2 : tie.Need-returns-2
-returns-2 c = sym (by-tests _ _ _ (eq-eqb _ _ c.before.if1.false) c.if2.true refl)
-
-mask-accepted-requires : tie.Need-mask-accepted-requires
-mask-accepted-requires c κs = search rules
-
-returns-3 : tie.Need-returns-3
-returns-3 c = sym (by-tests _ _ _ (eq-eqb _ _ c.before.before.before.if1.false) c.before.before.if2.false (sym c.before.mask-accepted.ensures ∙ c.if3.true))
-
-returns-4 : tie.Need-returns-4
-returns-4 c = sym (by-tests _ _ _ (eq-eqb _ _ c.before.before.before.if1.false) c.before.before.if2.false (sym c.before.mask-accepted.ensures ∙ c.if3.false))
+returns c = sym (by-tests _ _ _ (eq-eqb _ _ c.before.before.before.if-length-ne4460.false) c.before.before.if-key.false (sym c.before.mask_accepted.ensures ∙ c.if-mask_accepted.false))
 
 pub refresh_answer_spec : {M : Type 1} → statement M
 refresh_answer_spec =
-    tie.close (tie.spec returns returns-2 mask-accepted-requires returns-3 returns-4)
+    tie.close (tie.spec
+    returns-then-length-ne4460
+    returns-then-key
+    mask_accepted-requires
+    returns-then-mask_accepted
+    returns)

@@ -11,21 +11,25 @@ use borrow.Author.Rules.{rules}
 use Rattle.refresh.proofs.written.has_section.Statement.{statement}
 use Rattle.refresh.proofs.written.has_section.Tie as tie
 
-power : (c : tie.After-section-bit) → c.section-bit.result ≡ 2 ^ bit_place c.before.args.section
-power c = c.section-bit.ensures ∙ bit-place c.before.args.section
+power : (c : tie.After-section_bit-bit) → c.section_bit-bit.result ≡ 2 ^ bit_place c.before.args.section
+power c = c.section_bit-bit.ensures ∙ bit-place c.before.args.section
 
-section-bit-requires : tie.Need-section-bit-requires
-section-bit-requires c κs = search rules
+section_bit-bit-requires : tie.Need-section_bit-bit-requires
+section_bit-bit-requires c κs = search rules
 
-cast-bit : tie.Need-overflow-cast-bit
-cast-bit c = search rules
+overflow_cast-bit : tie.Need-overflow_cast-bit
+overflow_cast-bit c = search rules
 
-div-result : tie.Need-nonzero-div-result
-div-result c = subst (λ (n : ℕ). 0 < n) (sym (power c)) (pow_pos (bit_place c.before.args.section))
+nonzero_div-result : tie.Need-nonzero_div-result
+nonzero_div-result c = subst (λ (n : ℕ). 0 < n) (sym (power c)) (pow_pos (bit_place c.before.args.section))
 
 returns : tie.Need-returns
 unfolding has_bit
 returns c = ap (λ (n : ℕ). eqb (c.before.args.bits / n % 2) 1) (power c)
 
 pub has_section_spec : {M : Type 1} → statement M
-has_section_spec = tie.close (tie.spec section-bit-requires cast-bit div-result returns)
+has_section_spec = tie.close (tie.spec
+    section_bit-bit-requires
+    overflow_cast-bit
+    nonzero_div-result
+    returns)
