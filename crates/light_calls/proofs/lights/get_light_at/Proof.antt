@@ -11,77 +11,77 @@ use borrow.Author.Rules.{rules}
 use Rattle.light_calls.proofs.lights.get_light_at.Statement.{statement}
 use Rattle.light_calls.proofs.lights.get_light_at.Tie as tie
 
-image-refused-requires : tie.Need-image-refused-requires
-image-refused-requires c κs = search rules
+image_refused-requires : tie.Need-image_refused-requires
+image_refused-requires c κs = search rules
+
+returns-then-image_refused : tie.Need-returns-then-image_refused
+returns-then-image_refused c =
+    reading-nine _ _ _ _ _ (sym c.image_refused.ensures ∙ c.if-image_refused.true)
+
+state_of-s-requires : tie.Need-state_of-s-requires
+state_of-s-requires c κs =
+    image_fits _ (sym c.image_refused.ensures ∙ c.if-image_refused.false)
+
+get_light_at-read-requires : tie.Need-get_light_at-read-requires
+get_light_at-read-requires c κs = search rules
+
+enum_known-read : tie.Need-enum_known-read
+enum_known-read c = search rules
+
+enum_told-1 : tie.Need-enum_told-1
+enum_told-1 c = search rules
+
+returns-in_default : tie.Need-returns-in_default
+unfolding light_read_number
+returns-in_default c =
+    let at-image-refused = c in
+    let entry = c in
+    let a = entry.args in
+    reading-own _ _ _ _ _ (sym at-image-refused.image_refused.ensures ∙ c.if-image_refused.false)
+    (ap light_read_number (sym (c.get_light_at-read.ensures ∙ ap (λ s. get_light_at s a.index) c.state_of-s.ensures) ∙ c.in_default.is))
+
+returns-then-out-ne-LIGHT_BYTES : tie.Need-returns-then-out-ne-LIGHT_BYTES
+unfolding light_read_number
+returns-then-out-ne-LIGHT_BYTES c =
+    let at-state-of = c in
+    let at-if1 = c in
+    let at-image-refused = c in
+    let entry = c in
+    let a = entry.args in
+    reading-length _ _ _ _ _ (sym at-image-refused.image_refused.ensures ∙ at-if1.if-image_refused.false)
+    (ap light_read_number (sym (c.get_light_at-read.ensures ∙ ap (λ s. get_light_at s a.index) at-state-of.state_of-s.ensures) ∙ c.in-Light.is))
+    (length_wrong 104 _ c.if-out-ne-LIGHT_BYTES.true)
+
+put_light-requires : tie.Need-put_light-requires
+put_light-requires c κs = search rules
+
+shape_of-out : tie.Need-shape_of-out
+shape_of-out c = search rules
 
 returns : tie.Need-returns
-returns c =
-    reading-nine _ _ _ _ _ (sym c.before.image-refused.ensures ∙ c.if1.true)
-
-state-of-requires : tie.Need-state-of-requires
-state-of-requires c κs =
-    image_fits _ (sym c.before.image-refused.ensures ∙ c.if1.false)
-
-get-light-at-requires : tie.Need-get-light-at-requires
-get-light-at-requires c κs = search rules
-
-enum-known-read : tie.Need-enum-known-read
-enum-known-read c = search rules
-
-enum_told : tie.Need-enum-told
-enum_told c = search rules
-
-returns-2 : tie.Need-returns-2
-unfolding light_read_number
-returns-2 c =
-    let at-image-refused = c.before.before.before.before.before in
-    let entry = c.before.before.before.before.before.before.before.before in
-    let a = entry.args in
-    reading-own _ _ _ _ _ (sym at-image-refused.image-refused.ensures ∙ c.before.before.before.before.if1.false)
-    (ap light_read_number (sym (c.before.before.get-light-at.ensures ∙ ap (λ s. get_light_at s a.index) c.before.before.before.state-of.ensures) ∙ c.enum_told.given.1))
-
-returns-3 : tie.Need-returns-3
-unfolding light_read_number
-returns-3 c =
-    let at-state-of = c.before.before.before.before.before in
-    let at-if1 = c.before.before.before.before.before.before in
-    let at-image-refused = c.before.before.before.before.before.before.before in
-    let entry = c.before.before.before.before.before.before.before.before.before.before in
-    let a = entry.args in
-    reading-length _ _ _ _ _ (sym at-image-refused.image-refused.ensures ∙ at-if1.if1.false)
-    (ap light_read_number (sym (c.before.before.before.before.get-light-at.ensures ∙ ap (λ s. get_light_at s a.index) at-state-of.state-of.ensures) ∙ c.before.before.read.given.1))
-    (length_wrong 104 _ c.if2.true)
-
-put-light-requires : tie.Need-put-light-requires
-put-light-requires c κs = search rules
-
-same_length : tie.Need-same-length
-same_length c = search rules
-
-returns-4 : tie.Need-returns-4
 unfolding light_read_number light_read_light
-returns-4 c =
-    let entry = c.before.before.before.before.before.before.before.before.before.before.before.before.before.before in
+returns c =
+    let entry = c in
     let a = entry.args in
-    let r = c.before.before.before.before.before.before in
-    let t = r.before.before.before.before in
-    let found = sym (r.before.before.get-light-at.ensures ∙ ap (λ s. get_light_at s a.index) r.before.before.before.state-of.ensures) ∙ r.read.given.1 in
-    reading-done _ _ _ _ _ (sym t.before.image-refused.ensures ∙ t.if1.false) (ap light_read_number found)
-    (length_right 104 _ c.before.before.before.before.if2.false)
-    (c.before.before.put-light.ensures ∙ put-light_bytes _ _ c.before.before.before.before.if2.false ∙ ap (λ q. light_bytes (light_read_light q)) (sym found))
+    let r = c in
+    let t = r in
+    let found = sym (r.get_light_at-read.ensures ∙ ap (λ s. get_light_at s a.index) r.state_of-s.ensures) ∙ r.in-Light.is in
+    reading-done _ _ _ _ _ (sym t.image_refused.ensures ∙ t.if-image_refused.false) (ap light_read_number found)
+    (length_right 104 _ c.if-out-ne-LIGHT_BYTES.false)
+    (c.put_light.ensures ∙ put-light_bytes _ _ c.if-out-ne-LIGHT_BYTES.false ∙ ap (λ q. light_bytes (light_read_light q)) (sym found))
 
 pub get_light_at_spec : {M : Type 1} → statement M
 get_light_at_spec =
     tie.close
     (tie.spec
-    image-refused-requires
-    returns
-    state-of-requires
-    get-light-at-requires
-    enum-known-read
-    enum_told
-    returns-2
-    returns-3
-    put-light-requires
-    same_length
-    returns-4)
+    image_refused-requires
+    returns-then-image_refused
+    state_of-s-requires
+    get_light_at-read-requires
+    enum_known-read
+    enum_told-1
+    returns-in_default
+    returns-then-out-ne-LIGHT_BYTES
+    put_light-requires
+    shape_of-out
+    returns)

@@ -8,37 +8,37 @@ use borrow.Author.Rules.{rules}
 use Rattle.light_calls.proofs.lights.is_light_defined_at.Statement.{statement}
 use Rattle.light_calls.proofs.lights.is_light_defined_at.Tie as tie
 
-image-refused-requires : tie.Need-image-refused-requires
-image-refused-requires c κs = search rules
+image_refused-requires : tie.Need-image_refused-requires
+image_refused-requires c κs = search rules
+
+returns-then-image_refused : tie.Need-returns-then-image_refused
+returns-then-image_refused c =
+    reading-nine _ _ _ _ _ (sym c.before.image_refused.ensures ∙ c.if-image_refused.true)
+
+state_of-s-requires : tie.Need-state_of-s-requires
+state_of-s-requires c κs =
+    image_fits _ (sym c.before.image_refused.ensures ∙ c.if-image_refused.false)
+
+is_light_defined_at-requires : tie.Need-is_light_defined_at-requires
+is_light_defined_at-requires c κs = search rules
+
+overflow_cast-out : tie.Need-overflow_cast-out
+overflow_cast-out c = search rules
 
 returns : tie.Need-returns
-returns c =
-    reading-nine _ _ _ _ _ (sym c.before.image-refused.ensures ∙ c.if1.true)
-
-state-of-requires : tie.Need-state-of-requires
-state-of-requires c κs =
-    image_fits _ (sym c.before.image-refused.ensures ∙ c.if1.false)
-
-is-light-defined-at-requires : tie.Need-is-light-defined-at-requires
-is-light-defined-at-requires c κs = search rules
-
-cast-out : tie.Need-overflow-cast-out
-cast-out c = search rules
-
-returns-2 : tie.Need-returns-2
 unfolding flag
-returns-2 c =
+returns c =
     let entry = c.before.before.before.before.before in
-    reading-done _ _ _ _ _ (sym c.before.before.before.image-refused.ensures ∙ c.before.before.if1.false) refl refl
-    (flag_is c.is-light-defined-at.result ∙ ap flag (c.is-light-defined-at.ensures ∙ ap (λ s. is_light_defined_at s entry.args.index) c.before.state-of.ensures))
+    reading-done _ _ _ _ _ (sym c.before.before.before.image_refused.ensures ∙ c.before.before.if-image_refused.false) refl refl
+    (flag_is c.is_light_defined_at.result ∙ ap flag (c.is_light_defined_at.ensures ∙ ap (λ s. is_light_defined_at s entry.args.index) c.before.state_of-s.ensures))
 
 pub is_light_defined_at_spec : {M : Type 1} → statement M
 is_light_defined_at_spec =
     tie.close
     (tie.spec
-    image-refused-requires
-    returns
-    state-of-requires
-    is-light-defined-at-requires
-    cast-out
-    returns-2)
+    image_refused-requires
+    returns-then-image_refused
+    state_of-s-requires
+    is_light_defined_at-requires
+    overflow_cast-out
+    returns)

@@ -13,90 +13,79 @@ use borrow.Author.Rules.{rules}
 use Rattle.light_calls.proofs.lights.set_light_at.Statement.{statement}
 use Rattle.light_calls.proofs.lights.set_light_at.Tie as tie
 
-image-refused-requires : tie.Need-image-refused-requires
-image-refused-requires c κs = search rules
+image_refused-requires : tie.Need-image_refused-requires
+image_refused-requires c κs = search rules
 
-same_length : tie.Need-same-length
-same_length c = search rules
+shape_of-image-then-image_refused : tie.Need-shape_of-image-then-image_refused
+shape_of-image-then-image_refused c = search rules
+
+returns-then-image_refused : tie.Need-returns-then-image_refused
+returns-then-image_refused c =
+    changing-nine _ _ _ (sym c.image_refused.ensures ∙ c.if-image_refused.true)
+
+state_of-s-requires : tie.Need-state_of-s-requires
+state_of-s-requires c κs =
+    image_fits _ (sym c.image_refused.ensures ∙ c.if-image_refused.false)
+
+has_room-requires : tie.Need-has_room-requires
+has_room-requires c κs = search rules
+
+shape_of-image-then-not-has_room : tie.Need-shape_of-image-then-not-has_room
+shape_of-image-then-not-has_room c = search rules
+
+returns-then-not-has_room : tie.Need-returns-then-not-has_room
+returns-then-not-has_room c =
+    let a = c.args in
+    changing-own _ _ _ (sym c.image_refused.ensures ∙ c.if-image_refused.false)
+    (set_full _ _ (light_at a.light.now 0) (sym (c.has_room.ensures ∙ ap (λ s. has_room s a.index) c.state_of-s.ensures) ∙ not-true _ c.if-not-has_room.true))
+
+shape_of-image-then-light-ne-LIGHT_BYTES : tie.Need-shape_of-image-then-light-ne-LIGHT_BYTES
+shape_of-image-then-light-ne-LIGHT_BYTES c = search rules
+
+returns-then-light-ne-LIGHT_BYTES : tie.Need-returns-then-light-ne-LIGHT_BYTES
+returns-then-light-ne-LIGHT_BYTES c =
+    let a = c.args in
+    changing-length _ _ _ (sym c.image_refused.ensures ∙ c.if-image_refused.false)
+    (set_room _ _ (light_at a.light.now 0) (sym (c.has_room.ensures ∙ ap (λ s. has_room s a.index) c.state_of-s.ensures) ∙ not-false _ c.if-not-has_room.false)) (length_wrong 104 _ c.if-light-ne-LIGHT_BYTES.true)
+
+light_at-requires : tie.Need-light_at-requires
+light_at-requires c κs = search rules
+
+set_light_at-c-requires : tie.Need-set_light_at-c-requires
+set_light_at-c-requires c κs = search rules
+
+put_state-requires : tie.Need-put_state-requires
+put_state-requires c κs =
+    image_long _ (sym c.image_refused.ensures ∙ c.if-image_refused.false)
+
+shape_of-image : tie.Need-shape_of-image
+shape_of-image c = search rules
 
 returns : tie.Need-returns
 returns c =
-    changing-nine _ _ _ (sym c.before.image-refused.ensures ∙ c.if1.true)
-
-state-of-requires : tie.Need-state-of-requires
-state-of-requires c κs =
-    image_fits _ (sym c.before.before.image-refused.ensures ∙ c.before.if1.false)
-
-has-room-requires : tie.Need-has-room-requires
-has-room-requires c κs = search rules
-
-same-length-2 : tie.Need-same-length-2
-same-length-2 c = search rules
-
-returns-2 : tie.Need-returns-2
-returns-2 c =
-    let at-image-refused = c.before.before.before.before.before in
-    let entry = c.before.before.before.before.before.before.before.before.before in
-    let a = entry.args in
-    changing-own _ _ _ (sym at-image-refused.image-refused.ensures ∙ c.before.before.before.before.if1.false)
-    (set_full _ _ (light_at a.light.now 0) (sym (c.before.has_room.ensures ∙ ap (λ s. has_room s a.index) c.before.before.state-of.ensures) ∙ not-true _ c.if2.true))
-
-same-length-3 : tie.Need-same-length-3
-same-length-3 c = search rules
-
-returns-3 : tie.Need-returns-3
-returns-3 c =
-    let at-if1 = c.before.before.before.before.before in
-    let at-image-refused = c.before.before.before.before.before.before in
-    let entry = c.before.before.before.before.before.before.before.before.before.before in
-    let a = entry.args in
-    changing-length _ _ _ (sym at-image-refused.image-refused.ensures ∙ at-if1.if1.false)
-    (set_room _ _ (light_at a.light.now 0) (sym (c.before.before.has_room.ensures ∙ ap (λ s. has_room s a.index) c.before.before.before.state-of.ensures) ∙ not-false _ c.before.if2.false)) (length_wrong 104 _ c.if3.true)
-
-light-at-requires : tie.Need-light-at-requires
-light-at-requires c κs = search rules
-
-set-light-at-requires : tie.Need-set-light-at-requires
-set-light-at-requires c κs = search rules
-
-put-state-requires : tie.Need-put-state-requires
-put-state-requires c κs =
-    let at-if1 = c.before.before.before.before.before.before.before.before in
-    let at-image-refused = c.before.before.before.before.before.before.before.before.before in
-    image_long _ (sym at-image-refused.image-refused.ensures ∙ at-if1.if1.false)
-
-same-length-4 : tie.Need-same-length-4
-same-length-4 c = search rules
-
-returns-4 : tie.Need-returns-4
-returns-4 c =
-    let at-light-at = c.before.before.before.before.before in
-    let entry = c.before.before.before.before.before.before.before.before.before.before.before.before.before.before.before.before in
-    let a = entry.args in
-    let t = c.before.before.before.before.before.before in
-    let s = t.before.before.before in
-    changing-done _ _ _ (sym s.before.before.before.image-refused.ensures ∙ s.before.before.if1.false)
-    (set_room _ _ (light_at a.light.now 0) (sym (t.before.before.has_room.ensures ∙ ap (λ s. has_room s a.index) s.state-of.ensures) ∙ not-false _ t.before.if2.false))
-    (length_right 104 _ t.if3.false)
-    (c.before.before.put-state.ensures
-    ∙ ap (λ (t : LightChanged). image_bytes t.state)
-    (c.before.before.before.before.set-light-at.ensures ∙ ap₂ (λ x l. set_light_at x a.index l) s.state-of.ensures at-light-at.light-at.ensures))
+    let a = c.args in
+    changing-done _ _ _ (sym c.image_refused.ensures ∙ c.if-image_refused.false)
+    (set_room _ _ (light_at a.light.now 0) (sym (c.has_room.ensures ∙ ap (λ c. has_room c a.index) c.state_of-s.ensures) ∙ not-false _ c.if-not-has_room.false))
+    (length_right 104 _ c.if-light-ne-LIGHT_BYTES.false)
+    (c.put_state.ensures
+    ∙ ap (λ (c : LightChanged). image_bytes c.state)
+    (c.set_light_at-c.ensures ∙ ap₂ (λ x l. set_light_at x a.index l) c.state_of-s.ensures c.light_at.ensures))
 
 pub set_light_at_spec : {M : Type 1} → statement M
 set_light_at_spec =
     tie.close
     (tie.spec
-    image-refused-requires
-    same_length
-    returns
-    state-of-requires
-    has-room-requires
-    same-length-2
-    returns-2
-    same-length-3
-    returns-3
-    light-at-requires
-    set-light-at-requires
-    put-state-requires
-    same-length-4
-    returns-4)
+    image_refused-requires
+    shape_of-image-then-image_refused
+    returns-then-image_refused
+    state_of-s-requires
+    has_room-requires
+    shape_of-image-then-not-has_room
+    returns-then-not-has_room
+    shape_of-image-then-light-ne-LIGHT_BYTES
+    returns-then-light-ne-LIGHT_BYTES
+    light_at-requires
+    set_light_at-c-requires
+    put_state-requires
+    shape_of-image
+    returns)

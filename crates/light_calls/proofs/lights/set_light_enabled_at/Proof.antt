@@ -13,72 +13,64 @@ use borrow.Author.Rules.{rules}
 use Rattle.light_calls.proofs.lights.set_light_enabled_at.Statement.{statement}
 use Rattle.light_calls.proofs.lights.set_light_enabled_at.Tie as tie
 
-image-refused-requires : tie.Need-image-refused-requires
-image-refused-requires c κs = search rules
+image_refused-requires : tie.Need-image_refused-requires
+image_refused-requires c κs = search rules
 
-same_length : tie.Need-same-length
-same_length c = search rules
+shape_of-image-then-image_refused : tie.Need-shape_of-image-then-image_refused
+shape_of-image-then-image_refused c = search rules
+
+returns-then-image_refused : tie.Need-returns-then-image_refused
+returns-then-image_refused c =
+    changing-nine _ _ _ (sym c.image_refused.ensures ∙ c.if-image_refused.true)
+
+state_of-s-requires : tie.Need-state_of-s-requires
+state_of-s-requires c κs =
+    image_fits _ (sym c.image_refused.ensures ∙ c.if-image_refused.false)
+
+has_room-requires : tie.Need-has_room-requires
+has_room-requires c κs = search rules
+
+shape_of-image-then-not-has_room : tie.Need-shape_of-image-then-not-has_room
+shape_of-image-then-not-has_room c = search rules
+
+returns-then-not-has_room : tie.Need-returns-then-not-has_room
+returns-then-not-has_room c =
+    let a = c.args in
+    changing-own _ _ _ (sym c.image_refused.ensures ∙ c.if-image_refused.false)
+    (enable-full _ _ (not (eqb a.enabled 0)) (sym (c.has_room.ensures ∙ ap (λ s. has_room s a.index) c.state_of-s.ensures) ∙ not-true _ c.if-not-has_room.true))
+
+set_light_enabled_at-c-requires : tie.Need-set_light_enabled_at-c-requires
+set_light_enabled_at-c-requires c κs = search rules
+
+put_state-requires : tie.Need-put_state-requires
+put_state-requires c κs =
+    image_long _ (sym c.image_refused.ensures ∙ c.if-image_refused.false)
+
+shape_of-image : tie.Need-shape_of-image
+shape_of-image c = search rules
 
 returns : tie.Need-returns
 returns c =
-    changing-nine _ _ _ (sym c.before.image-refused.ensures ∙ c.if1.true)
-
-state-of-requires : tie.Need-state-of-requires
-state-of-requires c κs =
-    image_fits _ (sym c.before.before.image-refused.ensures ∙ c.before.if1.false)
-
-has-room-requires : tie.Need-has-room-requires
-has-room-requires c κs = search rules
-
-same-length-2 : tie.Need-same-length-2
-same-length-2 c = search rules
-
-returns-2 : tie.Need-returns-2
-returns-2 c =
-    let at-image-refused = c.before.before.before.before.before in
-    let entry = c.before.before.before.before.before.before.before.before in
-    let a = entry.args in
-    changing-own _ _ _ (sym at-image-refused.image-refused.ensures ∙ c.before.before.before.before.if1.false)
-    (enable-full _ _ (not (eqb a.enabled 0)) (sym (c.before.has_room.ensures ∙ ap (λ s. has_room s a.index) c.before.before.state-of.ensures) ∙ not-true _ c.if2.true))
-
-set-light-enabled-at-requires : tie.Need-set-light-enabled-at-requires
-set-light-enabled-at-requires c κs = search rules
-
-put-state-requires : tie.Need-put-state-requires
-put-state-requires c κs =
-    let at-if1 = c.before.before.before.before.before.before in
-    let at-image-refused = c.before.before.before.before.before.before.before in
-    image_long _ (sym at-image-refused.image-refused.ensures ∙ at-if1.if1.false)
-
-same-length-3 : tie.Need-same-length-3
-same-length-3 c = search rules
-
-returns-3 : tie.Need-returns-3
-returns-3 c =
-    let at-if2 = c.before.before.before.before.before in
-    let at-has-room = c.before.before.before.before.before.before in
-    let entry = c.before.before.before.before.before.before.before.before.before.before.before.before.before in
-    let a = entry.args in
-    let s = c.before.before.before.before.before.before.before in
-    changing-done _ _ _ (sym s.before.before.before.image-refused.ensures ∙ s.before.before.if1.false)
-    (enable-room _ _ (not (eqb a.enabled 0)) (sym (at-has-room.has_room.ensures ∙ ap (λ s. has_room s a.index) s.state-of.ensures) ∙ not-false _ at-if2.if2.false))
+    let a = c.args in
+    changing-done _ _ _ (sym c.image_refused.ensures ∙ c.if-image_refused.false)
+    (enable-room _ _ (not (eqb a.enabled 0)) (sym (c.has_room.ensures ∙ ap (λ c. has_room c a.index) c.state_of-s.ensures) ∙ not-false _ c.if-not-has_room.false))
     refl
-    (c.before.before.put-state.ensures
+    (c.put_state.ensures
     ∙ ap (λ (t : LightChanged). image_bytes t.state)
-    (c.before.before.before.before.set-light-enabled-at.ensures ∙ ap (λ x. set_light_enabled_at x a.index (not (eqb a.enabled 0))) s.state-of.ensures))
+    (c.set_light_enabled_at-c.ensures ∙ ap (λ x. set_light_enabled_at x a.index (not (eqb a.enabled 0))) c.state_of-s.ensures))
 
 pub set_light_enabled_at_spec : {M : Type 1} → statement M
 set_light_enabled_at_spec =
     tie.close
     (tie.spec
-    image-refused-requires
-    same_length
-    returns
-    state-of-requires
-    has-room-requires
-    same-length-2
-    returns-2
-    set-light-enabled-at-requires
-    put-state-requires
-    same-length-3
-    returns-3)
+    image_refused-requires
+    shape_of-image-then-image_refused
+    returns-then-image_refused
+    state_of-s-requires
+    has_room-requires
+    shape_of-image-then-not-has_room
+    returns-then-not-has_room
+    set_light_enabled_at-c-requires
+    put_state-requires
+    shape_of-image
+    returns)

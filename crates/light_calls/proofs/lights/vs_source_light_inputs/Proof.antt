@@ -7,30 +7,30 @@ use borrow.Author.Rules.{rules}
 use Rattle.light_calls.proofs.lights.vs_source_light_inputs.Statement.{statement}
 use Rattle.light_calls.proofs.lights.vs_source_light_inputs.Tie as tie
 
-image-refused-requires : tie.Need-image-refused-requires
-image-refused-requires c κs = search rules
+image_refused-requires : tie.Need-image_refused-requires
+image_refused-requires c κs = search rules
+
+returns-then-image_refused : tie.Need-returns-then-image_refused
+returns-then-image_refused c =
+    reading-nine _ _ _ _ _ (sym c.before.image_refused.ensures ∙ c.if-image_refused.true)
+
+state_of-s-requires : tie.Need-state_of-s-requires
+state_of-s-requires c κs =
+    image_fits _ (sym c.before.image_refused.ensures ∙ c.if-image_refused.false)
+
+vs_source_light_inputs-requires : tie.Need-vs_source_light_inputs-requires
+vs_source_light_inputs-requires c κs = search rules
 
 returns : tie.Need-returns
 returns c =
-    reading-nine _ _ _ _ _ (sym c.before.image-refused.ensures ∙ c.if1.true)
-
-state-of-requires : tie.Need-state-of-requires
-state-of-requires c κs =
-    image_fits _ (sym c.before.image-refused.ensures ∙ c.if1.false)
-
-vs-source-light-inputs-requires : tie.Need-vs-source-light-inputs-requires
-vs-source-light-inputs-requires c κs = search rules
-
-returns-2 : tie.Need-returns-2
-returns-2 c =
-    reading-done _ _ _ _ _ (sym c.before.before.before.image-refused.ensures ∙ c.before.before.if1.false) refl refl (c.vs-source-light-inputs.ensures ∙ ap vs_source_light_inputs c.before.state-of.ensures)
+    reading-done _ _ _ _ _ (sym c.before.before.before.image_refused.ensures ∙ c.before.before.if-image_refused.false) refl refl (c.vs_source_light_inputs.ensures ∙ ap vs_source_light_inputs c.before.state_of-s.ensures)
 
 pub vs_source_light_inputs_spec : {M : Type 1} → statement M
 vs_source_light_inputs_spec =
     tie.close
     (tie.spec
-    image-refused-requires
-    returns
-    state-of-requires
-    vs-source-light-inputs-requires
-    returns-2)
+    image_refused-requires
+    returns-then-image_refused
+    state_of-s-requires
+    vs_source_light_inputs-requires
+    returns)

@@ -10,70 +10,70 @@ use borrow.Author.Rules.{rules}
 use Rattle.matrix_calls.proofs.matrices.inverse.Statement.{statement}
 use Rattle.matrix_calls.proofs.matrices.inverse.Tie as tie
 
-returns : tie.Need-returns
+returns-then-m-ne-MATRIX_BYTES : tie.Need-returns-then-m-ne-MATRIX_BYTES
 unfolding ff_inverse or_next
-returns c =
-    let a = c.before.before.before.args in
-    refused _ a.out.now (rw (length_wrong 64 a.m.now c.if1.true))
+returns-then-m-ne-MATRIX_BYTES c =
+    let a = c.args in
+    refused _ a.out.now (rw (length_wrong 64 a.m.now c.if-m-ne-MATRIX_BYTES.true))
 
-returns-2 : tie.Need-returns-2
+returns-then-out-ne-MATRIX_BYTES : tie.Need-returns-then-out-ne-MATRIX_BYTES
 unfolding ff_inverse or_next
-returns-2 c =
-    let a = c.before.before.before.before.args in
-    refused _ a.out.now (rw (length_right 64 a.m.now c.before.if1.false, length_wrong 64 a.out.now c.if2.true))
+returns-then-out-ne-MATRIX_BYTES c =
+    let a = c.args in
+    refused _ a.out.now (rw (length_right 64 a.m.now c.if-m-ne-MATRIX_BYTES.false, length_wrong 64 a.out.now c.if-out-ne-MATRIX_BYTES.true))
 
-matrix-at-requires : tie.Need-matrix-at-requires
-matrix-at-requires c κs = search rules
+matrix_at-requires : tie.Need-matrix_at-requires
+matrix_at-requires c κs = search rules
 
 inverse-requires : tie.Need-inverse-requires
 inverse-requires c κs = search rules
 
-enum-known-i : tie.Need-enum-known-i
-enum-known-i c = search rules
+enum_known-i : tie.Need-enum_known-i
+enum_known-i c = search rules
 
-enum_told : tie.Need-enum-told
-enum_told c = search rules
+enum_told-1 : tie.Need-enum_told-1
+enum_told-1 c = search rules
 
-returns-3 : tie.Need-returns-3
+returns-in_default : tie.Need-returns-in_default
 unfolding ff_inverse or_next inverse_number
-returns-3 c =
-    let i = c.before.before in
-    let t = i.before.before in
-    let a = t.before.before.before.before.args in
-    let none = sym (i.inverse.ensures ∙ ap inverse i.before.matrix-at.ensures) ∙ c.enum_told.given.1 in
+returns-in_default c =
+    let i = c in
+    let t = i in
+    let a = t.args in
+    let none = sym (i.inverse.ensures ∙ ap inverse i.matrix_at.ensures) ∙ c.in_default.is in
     refused _ a.out.now
-    (rw (length_right 64 a.m.now t.before.if1.false, length_right 64 a.out.now t.if2.false, none))
+    (rw (length_right 64 a.m.now t.if-m-ne-MATRIX_BYTES.false, length_right 64 a.out.now t.if-out-ne-MATRIX_BYTES.false, none))
 
-put-matrix-requires : tie.Need-put-matrix-requires
-put-matrix-requires c κs = search rules
+put_matrix-requires : tie.Need-put_matrix-requires
+put_matrix-requires c κs = search rules
 
-same_length : tie.Need-same-length
-same_length c = search rules
+shape_of-out : tie.Need-shape_of-out
+shape_of-out c = search rules
 
-returns-4 : tie.Need-returns-4
+returns : tie.Need-returns
 unfolding ff_inverse or_next inverse_number inverse_matrix
-returns-4 c =
-    let p = c.before.before in
-    let k = p.before.before in
-    let i = k.before.before.before in
-    let t = i.before.before in
-    let a = t.before.before.before.before.args in
-    let found = sym (i.inverse.ensures ∙ ap inverse i.before.matrix-at.ensures) ∙ k.before.i.given.1 in
+returns c =
+    let p = c in
+    let k = p in
+    let i = k in
+    let t = i in
+    let a = t.args in
+    let found = sym (i.inverse.ensures ∙ ap inverse i.matrix_at.ensures) ∙ k.in-Matrix.is in
     accepted _ a.out.now
-    (rw (length_right 64 a.m.now t.before.if1.false, length_right 64 a.out.now t.if2.false, found))
-    (p.put-matrix.ensures ∙ put-matrix_bytes _ a.out.now t.if2.false ∙ rw found)
+    (rw (length_right 64 a.m.now t.if-m-ne-MATRIX_BYTES.false, length_right 64 a.out.now t.if-out-ne-MATRIX_BYTES.false, found))
+    (p.put_matrix.ensures ∙ put-matrix_bytes _ a.out.now t.if-out-ne-MATRIX_BYTES.false ∙ rw found)
 
 pub inverse_spec : {M : Type 1} → statement M
 inverse_spec =
     tie.close
     (tie.spec
-    returns
-    returns-2
-    matrix-at-requires
+    returns-then-m-ne-MATRIX_BYTES
+    returns-then-out-ne-MATRIX_BYTES
+    matrix_at-requires
     inverse-requires
-    enum-known-i
-    enum_told
-    returns-3
-    put-matrix-requires
-    same_length
-    returns-4)
+    enum_known-i
+    enum_told-1
+    returns-in_default
+    put_matrix-requires
+    shape_of-out
+    returns)

@@ -11,65 +11,65 @@ use borrow.Author.Rules.{rules}
 use Rattle.matrix_calls.proofs.matrices.mat_mul.Statement.{statement}
 use Rattle.matrix_calls.proofs.matrices.mat_mul.Tie as tie
 
-returns : tie.Need-returns
+returns-then-a-ne-MATRIX_BYTES : tie.Need-returns-then-a-ne-MATRIX_BYTES
 unfolding ff_mat_mul or_next
-returns c =
+returns-then-a-ne-MATRIX_BYTES c =
     let a = c.before.before.before.before.args in
-    refused _ a.out.now (rw (length_wrong 64 a.a.now c.if1.true))
+    refused _ a.out.now (rw (length_wrong 64 a.a.now c.if-a-ne-MATRIX_BYTES.true))
 
-returns-2 : tie.Need-returns-2
+returns-then-b-ne-MATRIX_BYTES : tie.Need-returns-then-b-ne-MATRIX_BYTES
 unfolding ff_mat_mul or_next
-returns-2 c =
+returns-then-b-ne-MATRIX_BYTES c =
     let entry = c.before.before.before.before.before in
     let a = entry.args in
-    refused _ a.out.now (rw (length_right 64 a.a.now c.before.if1.false, length_wrong 64 a.b.now c.if2.true))
+    refused _ a.out.now (rw (length_right 64 a.a.now c.before.if-a-ne-MATRIX_BYTES.false, length_wrong 64 a.b.now c.if-b-ne-MATRIX_BYTES.true))
 
-returns-3 : tie.Need-returns-3
+returns-then-out-ne-MATRIX_BYTES : tie.Need-returns-then-out-ne-MATRIX_BYTES
 unfolding ff_mat_mul or_next
-returns-3 c =
+returns-then-out-ne-MATRIX_BYTES c =
     let entry = c.before.before.before.before.before.before in
     let a = entry.args in
     refused _ a.out.now
-    (rw (length_right 64 a.a.now c.before.before.if1.false, length_right 64 a.b.now c.before.if2.false, length_wrong 64 a.out.now c.if3.true))
+    (rw (length_right 64 a.a.now c.before.before.if-a-ne-MATRIX_BYTES.false, length_right 64 a.b.now c.before.if-b-ne-MATRIX_BYTES.false, length_wrong 64 a.out.now c.if-out-ne-MATRIX_BYTES.true))
 
-matrix-at-requires : tie.Need-matrix-at-requires
-matrix-at-requires c κs = search rules
+matrix_at-requires : tie.Need-matrix_at-requires
+matrix_at-requires c κs = search rules
 
-matrix-at-requires-2 : tie.Need-matrix-at-requires-2
-matrix-at-requires-2 c κs = search rules
+matrix_at-requires-2 : tie.Need-matrix_at-requires-2
+matrix_at-requires-2 c κs = search rules
 
-mat-mul-requires : tie.Need-mat-mul-requires
-mat-mul-requires c κs = search rules
+mat_mul-m-requires : tie.Need-mat_mul-m-requires
+mat_mul-m-requires c κs = search rules
 
-put-matrix-requires : tie.Need-put-matrix-requires
-put-matrix-requires c κs = search rules
+put_matrix-requires : tie.Need-put_matrix-requires
+put_matrix-requires c κs = search rules
 
-same_length : tie.Need-same-length
-same_length c = search rules
+shape_of-out : tie.Need-shape_of-out
+shape_of-out c = search rules
 
-returns-4 : tie.Need-returns-4
+returns : tie.Need-returns
 unfolding ff_mat_mul or_next
-returns-4 c =
+returns c =
     let p = c.before.before in
     let m = p.before.before in
     let t = m.before.before.before in
     let a = t.before.before.before.before.before.before.args in
     accepted _ a.out.now
-    (rw (length_right 64 a.a.now t.before.before.if1.false, length_right 64 a.b.now t.before.if2.false, length_right 64 a.out.now t.if3.false))
-    (p.put-matrix.ensures
-    ∙ put-matrix_bytes _ a.out.now t.if3.false
-    ∙ ap matrix_bytes (m.mat-mul.ensures ∙ ap₂ mat_mul m.before.before.matrix-at.ensures m.before.matrix-at2.ensures))
+    (rw (length_right 64 a.a.now t.before.before.if-a-ne-MATRIX_BYTES.false, length_right 64 a.b.now t.before.if-b-ne-MATRIX_BYTES.false, length_right 64 a.out.now t.if-out-ne-MATRIX_BYTES.false))
+    (p.put_matrix.ensures
+    ∙ put-matrix_bytes _ a.out.now t.if-out-ne-MATRIX_BYTES.false
+    ∙ ap matrix_bytes (m.mat_mul-m.ensures ∙ ap₂ mat_mul m.before.before.matrix_at.ensures m.before.matrix_at-2.ensures))
 
 pub mat_mul_spec : {M : Type 1} → statement M
 mat_mul_spec =
     tie.close
     (tie.spec
-    returns
-    returns-2
-    returns-3
-    matrix-at-requires
-    matrix-at-requires-2
-    mat-mul-requires
-    put-matrix-requires
-    same_length
-    returns-4)
+    returns-then-a-ne-MATRIX_BYTES
+    returns-then-b-ne-MATRIX_BYTES
+    returns-then-out-ne-MATRIX_BYTES
+    matrix_at-requires
+    matrix_at-requires-2
+    mat_mul-m-requires
+    put_matrix-requires
+    shape_of-out
+    returns)

@@ -11,51 +11,51 @@ use borrow.Author.Rules.{rules}
 use Rattle.matrix_calls.proofs.matrices.transpose.Statement.{statement}
 use Rattle.matrix_calls.proofs.matrices.transpose.Tie as tie
 
+returns-then-m-ne-MATRIX_BYTES : tie.Need-returns-then-m-ne-MATRIX_BYTES
+unfolding ff_transpose or_next
+returns-then-m-ne-MATRIX_BYTES c =
+    let a = c.before.before.before.args in
+    refused _ a.out.now (rw (length_wrong 64 a.m.now c.if-m-ne-MATRIX_BYTES.true))
+
+returns-then-out-ne-MATRIX_BYTES : tie.Need-returns-then-out-ne-MATRIX_BYTES
+unfolding ff_transpose or_next
+returns-then-out-ne-MATRIX_BYTES c =
+    let a = c.before.before.before.before.args in
+    refused _ a.out.now (rw (length_right 64 a.m.now c.before.if-m-ne-MATRIX_BYTES.false, length_wrong 64 a.out.now c.if-out-ne-MATRIX_BYTES.true))
+
+matrix_at-requires : tie.Need-matrix_at-requires
+matrix_at-requires c κs = search rules
+
+transpose-t-requires : tie.Need-transpose-t-requires
+transpose-t-requires c κs = search rules
+
+put_matrix-requires : tie.Need-put_matrix-requires
+put_matrix-requires c κs = search rules
+
+shape_of-out : tie.Need-shape_of-out
+shape_of-out c = search rules
+
 returns : tie.Need-returns
 unfolding ff_transpose or_next
 returns c =
-    let a = c.before.before.before.args in
-    refused _ a.out.now (rw (length_wrong 64 a.m.now c.if1.true))
-
-returns-2 : tie.Need-returns-2
-unfolding ff_transpose or_next
-returns-2 c =
-    let a = c.before.before.before.before.args in
-    refused _ a.out.now (rw (length_right 64 a.m.now c.before.if1.false, length_wrong 64 a.out.now c.if2.true))
-
-matrix-at-requires : tie.Need-matrix-at-requires
-matrix-at-requires c κs = search rules
-
-transpose-requires : tie.Need-transpose-requires
-transpose-requires c κs = search rules
-
-put-matrix-requires : tie.Need-put-matrix-requires
-put-matrix-requires c κs = search rules
-
-same_length : tie.Need-same-length
-same_length c = search rules
-
-returns-3 : tie.Need-returns-3
-unfolding ff_transpose or_next
-returns-3 c =
     let p = c.before.before in
     let m = p.before.before in
     let t = m.before.before in
     let a = t.before.before.before.before.args in
     accepted _ a.out.now
-    (rw (length_right 64 a.m.now t.before.if1.false, length_right 64 a.out.now t.if2.false))
-    (p.put-matrix.ensures
-    ∙ put-matrix_bytes _ a.out.now t.if2.false
-    ∙ ap matrix_bytes (m.transpose.ensures ∙ ap transposed m.before.matrix-at.ensures))
+    (rw (length_right 64 a.m.now t.before.if-m-ne-MATRIX_BYTES.false, length_right 64 a.out.now t.if-out-ne-MATRIX_BYTES.false))
+    (p.put_matrix.ensures
+    ∙ put-matrix_bytes _ a.out.now t.if-out-ne-MATRIX_BYTES.false
+    ∙ ap matrix_bytes (m.transpose-t.ensures ∙ ap transposed m.before.matrix_at.ensures))
 
 pub transpose_spec : {M : Type 1} → statement M
 transpose_spec =
     tie.close
     (tie.spec
-    returns
-    returns-2
-    matrix-at-requires
-    transpose-requires
-    put-matrix-requires
-    same_length
-    returns-3)
+    returns-then-m-ne-MATRIX_BYTES
+    returns-then-out-ne-MATRIX_BYTES
+    matrix_at-requires
+    transpose-t-requires
+    put_matrix-requires
+    shape_of-out
+    returns)

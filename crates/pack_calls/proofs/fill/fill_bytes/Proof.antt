@@ -14,74 +14,69 @@ use borrow.Author.Rules.{rules}
 use Rattle.pack_calls.proofs.fill.fill_bytes.Statement.{statement}
 use Rattle.pack_calls.proofs.fill.fill_bytes.Tie as tie
 
-pack-section-requires : tie.Need-pack-section-requires
-pack-section-requires c κs = search rules
+pack_section-answer-requires : tie.Need-pack_section-answer-requires
+pack_section-answer-requires c κs = search rules
 
-enum_told : tie.Need-enum-told
-enum_told c = search rules
+enum_told-1 : tie.Need-enum_told-1
+enum_told-1 c = search rules
 
-put-floats-requires : tie.Need-put-floats-requires
-put-floats-requires c κs = search rules
+put_floats-requires : tie.Need-put_floats-requires
+put_floats-requires c κs = search rules
 
-enum-told-2 : tie.Need-enum-told-2
-enum-told-2 c = search rules
+enum_told-in-WrongLength : tie.Need-enum_told-in-WrongLength
+enum_told-in-WrongLength c = search rules
 
-enum-told-3 : tie.Need-enum-told-3
-enum-told-3 c = search rules
+enum_told-in-WrongMask : tie.Need-enum_told-in-WrongMask
+enum_told-in-WrongMask c = search rules
 
-same_length : tie.Need-same-length
-same_length c = search rules
+shape_of-floats-in-Packed : tie.Need-shape_of-floats-in-Packed
+shape_of-floats-in-Packed c = search rules
 
-same-length-2 : tie.Need-same-length-2
-same-length-2 c = search rules
+shape_of-dst : tie.Need-shape_of-dst
+shape_of-dst c = search rules
 
-returns : tie.Need-returns
+returns-in-Packed : tie.Need-returns-in-Packed
 unfolding pack_number
-returns c =
-    let at-enum-told = c.before.before.before.before.before in
-    let at-pack-section = c.before.before.before.before.before.before.before.before.before in
-    let entry = c.before.before.before.before.before.before.before.before.before.before.before.before.before in
-    let a = entry.args in
-    let q = entry.requires in
-    let fine = sym (number_is _ _ _ a.floats.now q.0 at-pack-section.pack-section.ensures) ∙ ap pack_number at-enum-told.enum_told.given.1 in
+returns-in-Packed c =
+    let a = c.args in
+    let q = c.requires in
+    let fine = sym (number_is _ _ _ a.floats.now q.0 c.pack_section-answer.ensures) ∙ ap pack_number c.in-Packed.is in
     accepted _ a.dst.now fine
-    (c.before.before.put-floats.ensures
-    ∙ put_whole _ a.dst.now (q.1 ∙ sym (length-listBytes float_bytes 4 length-float_bytes _ ∙ ap (λ (n : ℕ). 4 * n) at-pack-section.pack-section.auto.1.1.1.0))
-    ∙ ap (list_bytes float_bytes) (rows_are _ _ _ a.floats.now q.0 at-pack-section.pack-section.ensures fine))
+    (c.put_floats.ensures
+    ∙ put_whole _ a.dst.now (q.1 ∙ sym (length-listBytes float_bytes 4 length-float_bytes _ ∙ ap (λ (n : ℕ). 4 * n) c.pack_section-answer.auto.1.1.1.0))
+    ∙ ap (list_bytes float_bytes) (rows_are _ _ _ a.floats.now q.0 c.pack_section-answer.ensures fine))
 
-same-length-3 : tie.Need-same-length-3
-same-length-3 c = search rules
+shape_of-floats-in-WrongLength : tie.Need-shape_of-floats-in-WrongLength
+shape_of-floats-in-WrongLength c = search rules
 
-returns-2 : tie.Need-returns-2
+returns-in-WrongLength : tie.Need-returns-in-WrongLength
 unfolding pack_number
-returns-2 c =
-    let entry = c.before.before.before.before.before.before.before.before in
-    let a = entry.args in
-    refused _ a.dst.now (sym (number_is _ _ _ a.floats.now entry.requires.0 c.before.before.before.before.pack-section.ensures) ∙ ap pack_number c.enum-told2.given.1)
+returns-in-WrongLength c =
+    let a = c.args in
+    refused _ a.dst.now (sym (number_is _ _ _ a.floats.now c.requires.0 c.pack_section-answer.ensures) ∙ ap pack_number c.in-WrongLength.is)
 
-same-length-4 : tie.Need-same-length-4
-same-length-4 c = search rules
+shape_of-floats-in-WrongMask : tie.Need-shape_of-floats-in-WrongMask
+shape_of-floats-in-WrongMask c = search rules
 
-returns-3 : tie.Need-returns-3
+returns-in-WrongMask : tie.Need-returns-in-WrongMask
 unfolding pack_number
-returns-3 c =
-    let entry = c.before.before.before.before.before.before.before.before in
-    let a = entry.args in
-    refused _ a.dst.now (sym (number_is _ _ _ a.floats.now entry.requires.0 c.before.before.before.before.pack-section.ensures) ∙ ap pack_number c.enum-told3.given.1)
+returns-in-WrongMask c =
+    let a = c.args in
+    refused _ a.dst.now (sym (number_is _ _ _ a.floats.now c.requires.0 c.pack_section-answer.ensures) ∙ ap pack_number c.in-WrongMask.is)
 
 pub fill_bytes_spec : {M : Type 1} → statement M
 fill_bytes_spec =
     tie.close
     (tie.spec
-    pack-section-requires
-    enum_told
-    put-floats-requires
-    enum-told-2
-    enum-told-3
-    same_length
-    same-length-2
-    returns
-    same-length-3
-    returns-2
-    same-length-4
-    returns-3)
+    pack_section-answer-requires
+    enum_told-1
+    put_floats-requires
+    enum_told-in-WrongLength
+    enum_told-in-WrongMask
+    shape_of-floats-in-Packed
+    shape_of-dst
+    returns-in-Packed
+    shape_of-floats-in-WrongLength
+    returns-in-WrongLength
+    shape_of-floats-in-WrongMask
+    returns-in-WrongMask)

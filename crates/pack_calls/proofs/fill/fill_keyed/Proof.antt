@@ -14,105 +14,105 @@ use Rattle.ff_state.specs.declared.state.FfState.{FfState}
 use Rattle.image_reasons.specs.Reasons.{refused}
 use mathlib.Core.Bool.{false}
 
-abbrev begin : tie.After-section-rows → tie.Start
+abbrev begin : tie.After-section_rows-rows → tie.Start
 begin c = c.before.before.before.before.before.before
 
-abbrev state : tie.After-section-rows → FfState
-state c = c.before.state-of.result
+abbrev state : tie.After-section_rows-rows → FfState
+state c = c.before.state_of-s.result
 
-rows_is : (c : tie.After-section-rows) → c.section-rows.result ≡ state_count (begin c).args.section (state c) (begin c).args.key
-rows_is c = c.section-rows.ensures
+rows_is : (c : tie.After-section_rows-rows) → c.section_rows-rows.result ≡ state_count (begin c).args.section (state c) (begin c).args.key
+rows_is c = c.section_rows-rows.ensures
 
-byte : (c : tie.After-section-rows) → (begin c).args.key.vertex_blend_count < 256
-byte c = (begin c).well-formed.1.1.0.1.1.1.1.1.1.1.1.1.0.1
+byte : (c : tie.After-section_rows-rows) → (begin c).args.key.vertex_blend_count < 256
+byte c = (begin c).well_formed.1.1.0.1.1.1.1.1.1.1.1.1.0.1
 
-read : (c : tie.After-section-rows) → refused (begin c).args.image.now ≡ false
+read : (c : tie.After-section_rows-rows) → refused (begin c).args.image.now ≡ false
 read c =
     let past = c.before.before in
-    sym past.before.image-refused.ensures ∙ past.if1.false
+    sym past.before.image_refused.ensures ∙ past.if-image_refused.false
 
-image-refused-requires : tie.Need-image-refused-requires
-image-refused-requires c κs = search rules
+image_refused-requires : tie.Need-image_refused-requires
+image_refused-requires c κs = search rules
 
-returns : tie.Need-returns
-returns c =
-    reading-nine _ _ _ _ _ (sym c.before.image-refused.ensures ∙ c.if1.true)
+returns-then-image_refused : tie.Need-returns-then-image_refused
+returns-then-image_refused c =
+    reading-nine _ _ _ _ _ (sym c.before.image_refused.ensures ∙ c.if-image_refused.true)
 
-state-of-requires : tie.Need-state-of-requires
-state-of-requires c κs =
-    image_fits _ (sym c.before.image-refused.ensures ∙ c.if1.false)
+state_of-s-requires : tie.Need-state_of-s-requires
+state_of-s-requires c κs =
+    image_fits _ (sym c.before.image_refused.ensures ∙ c.if-image_refused.false)
 
-section-rows-requires : tie.Need-section-rows-requires
-section-rows-requires c κs = search rules
+section_rows-rows-requires : tie.Need-section_rows-rows-requires
+section_rows-rows-requires c κs = search rules
 
-cast-n : tie.Need-overflow-cast-n
-cast-n c = search rules
+overflow_cast-n : tie.Need-overflow_cast-n
+overflow_cast-n c = search rules
 
-mul-n : tie.Need-overflow-mul-n
-mul-n c = search rules
+overflow_mul-n : tie.Need-overflow_mul-n
+overflow_mul-n c = search rules
 
-mul-if2 : tie.Need-overflow-mul-if2
-mul-if2 c = search rules
+overflow_mul-n-2 : tie.Need-overflow_mul-n-2
+overflow_mul-n-2 c = search rules
 
-returns-2 : tie.Need-returns-2
-returns-2 c =
+returns-then-dst-n : tie.Need-returns-then-dst-n
+returns-then-dst-n c =
     let table = c.before in
     let a = (begin table).args in
     reading-own _ _ _ _ _ (read table)
-    (ap (fill_number a.section a.key a.dst.now) (sym table.before.state-of.ensures) ∙ fill-wrong a.section (state table) a.key (rows_is table) _ c.if2.true)
+    (ap (fill_number a.section a.key a.dst.now) (sym table.before.state_of-s.ensures) ∙ fill-wrong a.section (state table) a.key (rows_is table) _ c.if-dst-n.true)
 
-mirror-floats-requires : tie.Need-mirror-floats-requires
-mirror-floats-requires c κs = search rules
+mirror_floats-floats-requires : tie.Need-mirror_floats-floats-requires
+mirror_floats-floats-requires c κs = search rules
 
-array-borrow-prefix-floats : tie.Need-array-borrow-prefix-floats
-array-borrow-prefix-floats c =
+slice_bounds-floats-end : tie.Need-slice_bounds-floats-end
+slice_bounds-floats-end c =
     let table = c.before.before in
     let a = (begin table).args in
     omega (arith, fill-fits a.section (state table) a.key (rows_is table) (byte table))
 
-slice-aggregate-fill-bytes : tie.Need-slice-aggregate-fill-bytes
-slice-aggregate-fill-bytes c =
+slice_bounds-fill_bytes-end : tie.Need-slice_bounds-fill_bytes-end
+slice_bounds-fill_bytes-end c =
     let table = c.before.before.before in
     let a = (begin table).args in
-    sym (front a.section (state table) a.key (rows_is table) (byte table) _ c.before.mirror-floats.ensures)
+    sym (front a.section (state table) a.key (rows_is table) (byte table) _ c.before.mirror_floats-floats.ensures)
 
-fill-bytes-requires : tie.Need-fill-bytes-requires
-fill-bytes-requires c κs =
+fill_bytes-requires : tie.Need-fill_bytes-requires
+fill_bytes-requires c κs =
     let made = c.before.before in
     let table = made.before.before in
     let a = (begin table).args in
-    let long = made.mirror-floats.ensures in (
+    let long = made.mirror_floats-floats.ensures in (
       front-rows a.section (state table) a.key (rows_is table) (byte table) _ long,
-      made.before.if2.false ∙ ap (λ (n : ℕ). 4 * n) (sym (front a.section (state table) a.key (rows_is table) (byte table) _ long)),
+      made.before.if-dst-n.false ∙ ap (λ (n : ℕ). 4 * n) (sym (front a.section (state table) a.key (rows_is table) (byte table) _ long)),
     )
 
-same_length : tie.Need-same-length
-same_length c = search rules
+shape_of-dst : tie.Need-shape_of-dst
+shape_of-dst c = search rules
 
-returns-3 : tie.Need-returns-3
-returns-3 c =
+returns : tie.Need-returns
+returns c =
     let filled = c.before.before.before in
     let past = filled.before.before.before.before in
     let table = past.before in
     let a = (begin table).args in
-    filled.fill-bytes.ensures
-    ∙ fill_done a.section (state table) a.key (rows_is table) _ _ table.before.state-of.ensures (read table) past.if2.false
+    filled.fill_bytes.ensures
+    ∙ fill_done a.section (state table) a.key (rows_is table) _ _ table.before.state_of-s.ensures (read table) past.if-dst-n.false
 
 pub fill_keyed_spec : {M : Type 1} → statement M
 fill_keyed_spec =
     tie.close
     (tie.spec
-    image-refused-requires
-    returns
-    state-of-requires
-    section-rows-requires
-    cast-n
-    mul-n
-    mul-if2
-    returns-2
-    mirror-floats-requires
-    array-borrow-prefix-floats
-    slice-aggregate-fill-bytes
-    fill-bytes-requires
-    same_length
-    returns-3)
+    image_refused-requires
+    returns-then-image_refused
+    state_of-s-requires
+    section_rows-rows-requires
+    overflow_cast-n
+    overflow_mul-n
+    overflow_mul-n-2
+    returns-then-dst-n
+    mirror_floats-floats-requires
+    slice_bounds-floats-end
+    slice_bounds-fill_bytes-end
+    fill_bytes-requires
+    shape_of-dst
+    returns)

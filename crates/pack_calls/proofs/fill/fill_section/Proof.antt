@@ -6,20 +6,23 @@ use borrow.Author.Rules.{rules}
 use Rattle.pack_calls.proofs.fill.fill_section.Statement.{statement}
 use Rattle.pack_calls.proofs.fill.fill_section.Tie as tie
 
-key-of-requires : tie.Need-key-of-requires
-key-of-requires c κs = search rules
+key_of-key-requires : tie.Need-key_of-key-requires
+key_of-key-requires c κs = search rules
 
-fill-keyed-requires : tie.Need-fill-keyed-requires
-fill-keyed-requires c κs = search rules
+fill_keyed-requires : tie.Need-fill_keyed-requires
+fill_keyed-requires c κs = search rules
 
-same_length : tie.Need-same-length
-same_length c = search rules
+shape_of-dst : tie.Need-shape_of-dst
+shape_of-dst c = search rules
 
 returns : tie.Need-returns
 returns c =
-    let entry = c.before.before.before.before.before.before.before in
-    let a = entry.args in
-    c.before.before.fill-keyed.ensures ∙ ap (λ k. ff_fill_section a.section a.image.now k a.dst.now) c.before.before.before.before.key_of.ensures
+    let a = c.args in
+    c.fill_keyed.ensures ∙ ap (λ k. ff_fill_section a.section a.image.now k a.dst.now) c.key_of-key.ensures
 
 pub fill_section_spec : {M : Type 1} → statement M
-fill_section_spec = tie.close (tie.spec key-of-requires fill-keyed-requires same_length returns)
+fill_section_spec = tie.close (tie.spec
+    key_of-key-requires
+    fill_keyed-requires
+    shape_of-dst
+    returns)

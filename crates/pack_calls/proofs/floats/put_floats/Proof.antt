@@ -10,64 +10,63 @@ use Rattle.pack_calls.proofs.Width.{length-float_bytes}
 use Rattle.pack_calls.proofs.floats.put_floats.Statement.{statement}
 use Rattle.pack_calls.proofs.floats.put_floats.Tie as tie
 
-abbrev invariant-loop : tie.invariant-loop
-invariant-loop dst₀ at xs i₀ dst i = Stands float_bytes (length xs) at xs dst₀ dst i
+abbrev invariant-loop-i : tie.invariant-loop-i
+invariant-loop-i dst₀ at xs i₀ dst i = Stands float_bytes (length xs) at xs dst₀ dst i
 
-abbrev decreases-loop : tie.decreases-loop
-decreases-loop dst₀ at xs i₀ dst i = length xs - i
+abbrev decreases-loop-i : tie.decreases-loop-i
+decreases-loop-i dst₀ at xs i₀ dst i = length xs - i
 
-loop-holds : tie.Need-loop-init invariant-loop decreases-loop
-loop-holds c = begins float_bytes _ _ _ _ refl
+loop-i-init : tie.Need-loop-i-init invariant-loop-i decreases-loop-i
+loop-i-init c = begins float_bytes _ _ _ _ refl
 
-mul-put-f32 : tie.Need-overflow-mul-put-f32 invariant-loop decreases-loop
-mul-put-f32 c = omega arith
+overflow_mul-i : tie.Need-overflow_mul-i invariant-loop-i decreases-loop-i
+overflow_mul-i c = omega arith
 
-add-put-f32 : tie.Need-overflow-add-put-f32 invariant-loop decreases-loop
-add-put-f32 c = omega arith
+overflow_add-at : tie.Need-overflow_add-at invariant-loop-i decreases-loop-i
+overflow_add-at c = omega arith
 
-mul-put-f32-2 : tie.Need-overflow-mul-put-f32-2 invariant-loop decreases-loop
-mul-put-f32-2 c = omega arith
+offset_bounds-xs-i : tie.Need-offset_bounds-xs-i invariant-loop-i decreases-loop-i
+offset_bounds-xs-i c = omega arith
 
-shared-slice-read-put-f32 : tie.Need-shared-slice-read-put-f32 invariant-loop decreases-loop
-shared-slice-read-put-f32 c = omega arith
+bounds-xs-i : tie.Need-bounds-xs-i invariant-loop-i decreases-loop-i
+bounds-xs-i c = omega arith
 
-put-f32-requires : tie.Need-put-f32-requires invariant-loop decreases-loop
-put-f32-requires c κs = omega arith
+put_f32-requires : tie.Need-put_f32-requires invariant-loop-i decreases-loop-i
+put_f32-requires c κs = omega arith
 
-add-i : tie.Need-overflow-add-i invariant-loop decreases-loop
-add-i c = omega arith
+overflow_add-i : tie.Need-overflow_add-i invariant-loop-i decreases-loop-i
+overflow_add-i c = omega arith
 
-loop-less : tie.Need-loop-smaller invariant-loop decreases-loop
-loop-less c = omega arith
+loop-i-smaller : tie.Need-loop-i-smaller invariant-loop-i decreases-loop-i
+loop-i-smaller c = omega arith
 
-loop-again : tie.Need-loop-preserved invariant-loop decreases-loop
-loop-again c =
-    let l = c.before.before.before.before.before.before in
-    let a = l.before.before.before.args in
-    goes_on float_bytes _ a.at a.xs.now a.dst.now 4 length-float_bytes l.loop.i _ l.loop.dst _ l.before.before.before.requires l.loop.invariant (omega arith) c.before.before.put-f32.auto.0 c.before.before.put-f32.ensures
+loop-i-preserved : tie.Need-loop-i-preserved invariant-loop-i decreases-loop-i
+loop-i-preserved c =
+    let a = c.args in
+    goes_on float_bytes _ a.at a.xs.now a.dst.now 4 length-float_bytes c.loop-i.i _ c.loop-i.dst _ c.requires c.loop-i.invariant (omega arith) c.put_f32.auto.0 c.put_f32.ensures
 
-same_length : tie.Need-same-length invariant-loop decreases-loop
-same_length c = c.before.loop.invariant.same
+shape_of-dst : tie.Need-shape_of-dst invariant-loop-i decreases-loop-i
+shape_of-dst c = c.loop-i.invariant.same
 
-returns : tie.Need-returns invariant-loop decreases-loop
+returns : tie.Need-returns invariant-loop-i decreases-loop-i
 returns c =
-    let a = c.before.before.before.before.args in
-    ends float_bytes _ a.at a.xs.now a.dst.now c.before.loop.i c.before.loop.dst c.loop-test.false c.before.loop.invariant
+    let a = c.args in
+    ends float_bytes _ a.at a.xs.now a.dst.now c.loop-i.i c.loop-i.dst c.loop-i-test.false c.loop-i.invariant
 
 pub put_floats_spec : {M : Type 1} → statement M
 put_floats_spec =
     tie.close
     (tie.spec
-    invariant-loop
-    decreases-loop
-    loop-holds
-    mul-put-f32
-    add-put-f32
-    mul-put-f32-2
-    shared-slice-read-put-f32
-    put-f32-requires
-    add-i
-    loop-less
-    loop-again
-    same_length
+    invariant-loop-i
+    decreases-loop-i
+    loop-i-init
+    overflow_mul-i
+    overflow_add-at
+    offset_bounds-xs-i
+    bounds-xs-i
+    put_f32-requires
+    overflow_add-i
+    loop-i-smaller
+    loop-i-preserved
+    shape_of-dst
     returns)

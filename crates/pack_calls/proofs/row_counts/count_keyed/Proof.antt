@@ -6,28 +6,34 @@ use borrow.Author.Rules.{rules}
 use Rattle.pack_calls.proofs.row_counts.count_keyed.Statement.{statement}
 use Rattle.pack_calls.proofs.row_counts.count_keyed.Tie as tie
 
-image-refused-requires : tie.Need-image-refused-requires
-image-refused-requires c κs = search rules
+image_refused-requires : tie.Need-image_refused-requires
+image_refused-requires c κs = search rules
+
+returns-then-image_refused : tie.Need-returns-then-image_refused
+returns-then-image_refused c = reading-nine _ _ _ _ _ (sym c.before.image_refused.ensures ∙ c.if-image_refused.true)
+
+state_of-s-requires : tie.Need-state_of-s-requires
+state_of-s-requires c κs =
+    image_fits _ (sym c.before.image_refused.ensures ∙ c.if-image_refused.false)
+
+ff_vs_row_count-n-requires : tie.Need-ff_vs_row_count-n-requires
+ff_vs_row_count-n-requires c κs = search rules
+
+overflow_cast-out : tie.Need-overflow_cast-out
+overflow_cast-out c = search rules
 
 returns : tie.Need-returns
-returns c = reading-nine _ _ _ _ _ (sym c.before.image-refused.ensures ∙ c.if1.true)
-
-state-of-requires : tie.Need-state-of-requires
-state-of-requires c κs =
-    image_fits _ (sym c.before.image-refused.ensures ∙ c.if1.false)
-
-ff-vs-row-count-requires : tie.Need-ff-vs-row-count-requires
-ff-vs-row-count-requires c κs = search rules
-
-cast-out : tie.Need-overflow-cast-out
-cast-out c = search rules
-
-returns-2 : tie.Need-returns-2
-returns-2 c =
+returns c =
     let read = c.before in
     let past = read.before in
-    reading-done _ _ _ _ _ (sym past.before.image-refused.ensures ∙ past.if1.false) refl refl (cc (c.ff-vs-row-count.ensures, read.state-of.ensures))
+    reading-done _ _ _ _ _ (sym past.before.image_refused.ensures ∙ past.if-image_refused.false) refl refl (cc (c.ff_vs_row_count-n.ensures, read.state_of-s.ensures))
 
 pub count_keyed_spec : {M : Type 1} → statement M
 count_keyed_spec =
-    tie.close (tie.spec image-refused-requires returns state-of-requires ff-vs-row-count-requires cast-out returns-2)
+    tie.close (tie.spec
+    image_refused-requires
+    returns-then-image_refused
+    state_of-s-requires
+    ff_vs_row_count-n-requires
+    overflow_cast-out
+    returns)

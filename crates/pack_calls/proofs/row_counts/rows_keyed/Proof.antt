@@ -7,29 +7,35 @@ use borrow.Author.Rules.{rules}
 use Rattle.pack_calls.proofs.row_counts.rows_keyed.Statement.{statement}
 use Rattle.pack_calls.proofs.row_counts.rows_keyed.Tie as tie
 
-image-refused-requires : tie.Need-image-refused-requires
-image-refused-requires c κs = search rules
+image_refused-requires : tie.Need-image_refused-requires
+image_refused-requires c κs = search rules
+
+returns-then-image_refused : tie.Need-returns-then-image_refused
+returns-then-image_refused c = reading-nine _ _ _ _ _ (sym c.before.image_refused.ensures ∙ c.if-image_refused.true)
+
+state_of-s-requires : tie.Need-state_of-s-requires
+state_of-s-requires c κs =
+    image_fits _ (sym c.before.image_refused.ensures ∙ c.if-image_refused.false)
+
+section_rows-rows-requires : tie.Need-section_rows-rows-requires
+section_rows-rows-requires c κs = search rules
+
+overflow_cast-out : tie.Need-overflow_cast-out
+overflow_cast-out c = search rules
 
 returns : tie.Need-returns
-returns c = reading-nine _ _ _ _ _ (sym c.before.image-refused.ensures ∙ c.if1.true)
-
-state-of-requires : tie.Need-state-of-requires
-state-of-requires c κs =
-    image_fits _ (sym c.before.image-refused.ensures ∙ c.if1.false)
-
-section-rows-requires : tie.Need-section-rows-requires
-section-rows-requires c κs = search rules
-
-cast-out : tie.Need-overflow-cast-out
-cast-out c = search rules
-
-returns-2 : tie.Need-returns-2
-returns-2 c =
+returns c =
     let read = c.before in
     let past = read.before in
     let a = past.before.before.before.args in
-    reading-done _ _ _ _ _ (sym past.before.image-refused.ensures ∙ past.if1.false) refl refl (c.section-rows.ensures ∙ ap (λ s. state_count a.section s a.key) read.state-of.ensures)
+    reading-done _ _ _ _ _ (sym past.before.image_refused.ensures ∙ past.if-image_refused.false) refl refl (c.section_rows-rows.ensures ∙ ap (λ s. state_count a.section s a.key) read.state_of-s.ensures)
 
 pub rows_keyed_spec : {M : Type 1} → statement M
 rows_keyed_spec =
-    tie.close (tie.spec image-refused-requires returns state-of-requires section-rows-requires cast-out returns-2)
+    tie.close (tie.spec
+    image_refused-requires
+    returns-then-image_refused
+    state_of-s-requires
+    section_rows-rows-requires
+    overflow_cast-out
+    returns)

@@ -6,16 +6,19 @@ use borrow.Author.Rules.{rules}
 use Rattle.pack_calls.proofs.row_counts.vs_row_count.Statement.{statement}
 use Rattle.pack_calls.proofs.row_counts.vs_row_count.Tie as tie
 
-key-of-requires : tie.Need-key-of-requires
-key-of-requires c κs = search rules
+key_of-key-requires : tie.Need-key_of-key-requires
+key_of-key-requires c κs = search rules
 
-count-keyed-requires : tie.Need-count-keyed-requires
-count-keyed-requires c κs = search rules
+count_keyed-requires : tie.Need-count_keyed-requires
+count_keyed-requires c κs = search rules
 
 returns : tie.Need-returns
 returns c =
     let a = c.before.before.before.before.args in
-    c.count-keyed.ensures ∙ ap (λ k. host_row_count a.image.now k a.out.now) c.before.before.key_of.ensures
+    c.count_keyed.ensures ∙ ap (λ k. host_row_count a.image.now k a.out.now) c.before.before.key_of-key.ensures
 
 pub vs_row_count_spec : {M : Type 1} → statement M
-vs_row_count_spec = tie.close (tie.spec key-of-requires count-keyed-requires returns)
+vs_row_count_spec = tie.close (tie.spec
+    key_of-key-requires
+    count_keyed-requires
+    returns)

@@ -8,47 +8,55 @@ use borrow.Author.Rules.{rules}
 use Rattle.transform_calls.proofs.transforms.change_code.Statement.{statement}
 use Rattle.transform_calls.proofs.transforms.change_code.Tie as tie
 
-image-refused-requires : tie.Need-image-refused-requires
-image-refused-requires c κs = search rules
+image_refused-requires : tie.Need-image_refused-requires
+image_refused-requires c κs = search rules
+
+returns-then-image_refused : tie.Need-returns-then-image_refused
+returns-then-image_refused c =
+    sym (changing-code _ _ _ ∙ code-nine _ _ _ (sym c.image_refused.ensures ∙ c.if-image_refused.true))
+
+slot_of-slot-requires : tie.Need-slot_of-slot-requires
+slot_of-slot-requires c κs = search rules
+
+enum_told-1 : tie.Need-enum_told-1
+enum_told-1 c = search rules
+
+enum_told-in_default : tie.Need-enum_told-in_default
+enum_told-in_default c = search rules
+
+returns-in_default : tie.Need-returns-in_default
+returns-in_default c =
+    sym
+    (changing-code _ _ _
+    ∙ code-own _ _ _ (sym c.image_refused.ensures ∙ c.if-image_refused.false)
+    (set-unknown _ _ _ (sym c.slot_of-slot.ensures ∙ c.in_default.is)))
+
+returns-then-matrix-ne-MATRIX_BYTES : tie.Need-returns-then-matrix-ne-MATRIX_BYTES
+returns-then-matrix-ne-MATRIX_BYTES c =
+    let at-image-refused = c in
+    sym
+    (changing-code _ _ _
+    ∙ code-length _ _ _ (sym at-image-refused.image_refused.ensures ∙ c.if-image_refused.false)
+    (set_known _ _ _ (sym c.slot_of-slot.ensures ∙ c.in-At.is))
+    ∙ length_wrong 64 _ c.if-matrix-ne-MATRIX_BYTES.true)
 
 returns : tie.Need-returns
 returns c =
-    sym (changing-code _ _ _ ∙ code-nine _ _ _ (sym c.before.image-refused.ensures ∙ c.if1.true))
-
-slot-of-requires : tie.Need-slot-of-requires
-slot-of-requires c κs = search rules
-
-enum_told : tie.Need-enum-told
-enum_told c = search rules
-
-enum-told-2 : tie.Need-enum-told-2
-enum-told-2 c = search rules
-
-returns-2 : tie.Need-returns-2
-returns-2 c =
+    let at-image-refused = c in
     sym
     (changing-code _ _ _
-    ∙ code-own _ _ _ (sym c.before.before.before.before.image-refused.ensures ∙ c.before.before.before.if1.false)
-    (set-unknown _ _ _ (sym c.before.before.slot_of.ensures ∙ c.enum-told2.given.1)))
-
-returns-3 : tie.Need-returns-3
-returns-3 c =
-    let at-image-refused = c.before.before.before.before.before in
-    sym
-    (changing-code _ _ _
-    ∙ code-length _ _ _ (sym at-image-refused.image-refused.ensures ∙ c.before.before.before.before.if1.false)
-    (set_known _ _ _ (sym c.before.before.before.slot_of.ensures ∙ c.before.enum_told.given.1))
-    ∙ length_wrong 64 _ c.if2.true)
-
-returns-4 : tie.Need-returns-4
-returns-4 c =
-    let at-image-refused = c.before.before.before.before.before in
-    sym
-    (changing-code _ _ _
-    ∙ code-length _ _ _ (sym at-image-refused.image-refused.ensures ∙ c.before.before.before.before.if1.false)
-    (set_known _ _ _ (sym c.before.before.before.slot_of.ensures ∙ c.before.enum_told.given.1))
-    ∙ length_right 64 _ c.if2.false)
+    ∙ code-length _ _ _ (sym at-image-refused.image_refused.ensures ∙ c.if-image_refused.false)
+    (set_known _ _ _ (sym c.slot_of-slot.ensures ∙ c.in-At.is))
+    ∙ length_right 64 _ c.if-matrix-ne-MATRIX_BYTES.false)
 
 pub change_code_spec : {M : Type 1} → statement M
 change_code_spec =
-    tie.close (tie.spec image-refused-requires returns slot-of-requires enum_told enum-told-2 returns-2 returns-3 returns-4)
+    tie.close (tie.spec
+    image_refused-requires
+    returns-then-image_refused
+    slot_of-slot-requires
+    enum_told-1
+    enum_told-in_default
+    returns-in_default
+    returns-then-matrix-ne-MATRIX_BYTES
+    returns)

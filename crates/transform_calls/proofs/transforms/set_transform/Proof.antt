@@ -10,42 +10,48 @@ use borrow.Author.Rules.{rules}
 use Rattle.transform_calls.proofs.transforms.set_transform.Statement.{statement}
 use Rattle.transform_calls.proofs.transforms.set_transform.Tie as tie
 
-change-code-requires : tie.Need-change-code-requires
-change-code-requires c κs = search rules
+change_code-code-requires : tie.Need-change_code-code-requires
+change_code-code-requires c κs = search rules
 
-same_length : tie.Need-same-length
-same_length c = search rules
+shape_of-image-then-code-ne0 : tie.Need-shape_of-image-then-code-ne0
+shape_of-image-then-code-ne0 c = search rules
+
+returns-then-code-ne0 : tie.Need-returns-then-code-ne0
+returns-then-code-ne0 c = changing-refused _ _ _ _ c.change_code-code.ensures c.if-code-ne0.true
+
+state_of-s-requires : tie.Need-state_of-s-requires
+state_of-s-requires c κs = image_fits _ (image-passed _ _ _ (sym c.change_code-code.ensures ∙ c.if-code-ne0.false))
+
+matrix_at-requires : tie.Need-matrix_at-requires
+matrix_at-requires c κs = matrix-passed _ _ _ (sym c.change_code-code.ensures ∙ c.if-code-ne0.false)
+
+set_transform-c-requires : tie.Need-set_transform-c-requires
+set_transform-c-requires c κs = search rules
+
+put_state-requires : tie.Need-put_state-requires
+put_state-requires c κs =
+    image_long _ (image-passed _ _ _ (sym c.change_code-code.ensures ∙ c.if-code-ne0.false))
+
+shape_of-image : tie.Need-shape_of-image
+shape_of-image c = search rules
 
 returns : tie.Need-returns
-returns c = changing-refused _ _ _ _ c.before.change-code.ensures c.if1.true
-
-state-of-requires : tie.Need-state-of-requires
-state-of-requires c κs = image_fits _ (image-passed _ _ _ (sym c.before.before.change-code.ensures ∙ c.before.if1.false))
-
-matrix-at-requires : tie.Need-matrix-at-requires
-matrix-at-requires c κs = matrix-passed _ _ _ (sym c.before.before.before.change-code.ensures ∙ c.before.before.if1.false)
-
-set-transform-requires : tie.Need-set-transform-requires
-set-transform-requires c κs = search rules
-
-put-state-requires : tie.Need-put-state-requires
-put-state-requires c κs =
-    let s = c.before.before.before in
-    image_long _ (image-passed _ _ _ (sym s.before.before.before.change-code.ensures ∙ s.before.before.if1.false))
-
-same-length-2 : tie.Need-same-length-2
-same-length-2 c = search rules
-
-returns-2 : tie.Need-returns-2
-returns-2 c =
-    let at-matrix-at = c.before.before.before.before.before in
-    let s = c.before.before.before.before.before.before in
-    let a = s.before.before.before.before.before.before.before.args in
-    changing-accepted _ _ _ (sym s.before.before.before.change-code.ensures ∙ s.before.before.if1.false)
-    (c.before.before.put-state.ensures
+returns c =
+    let a = c.args in
+    changing-accepted _ _ _ (sym c.change_code-code.ensures ∙ c.if-code-ne0.false)
+    (c.put_state.ensures
     ∙ ap (λ (t : TransformChanged). image_bytes t.state)
-    (c.before.before.before.before.set-transform.ensures ∙ ap₂ (λ x m. set_transform x a.state m) s.state-of.ensures at-matrix-at.matrix-at.ensures))
+    (c.set_transform-c.ensures ∙ ap₂ (λ x m. set_transform x a.state m) c.state_of-s.ensures c.matrix_at.ensures))
 
 pub set_transform_spec : {M : Type 1} → statement M
 set_transform_spec =
-    tie.close (tie.spec change-code-requires same_length returns state-of-requires matrix-at-requires set-transform-requires put-state-requires same-length-2 returns-2)
+    tie.close (tie.spec
+    change_code-code-requires
+    shape_of-image-then-code-ne0
+    returns-then-code-ne0
+    state_of-s-requires
+    matrix_at-requires
+    set_transform-c-requires
+    put_state-requires
+    shape_of-image
+    returns)

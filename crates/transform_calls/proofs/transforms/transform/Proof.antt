@@ -10,77 +10,77 @@ use borrow.Author.Rules.{rules}
 use Rattle.transform_calls.proofs.transforms.transform.Statement.{statement}
 use Rattle.transform_calls.proofs.transforms.transform.Tie as tie
 
-image-refused-requires : tie.Need-image-refused-requires
-image-refused-requires c κs = search rules
+image_refused-requires : tie.Need-image_refused-requires
+image_refused-requires c κs = search rules
+
+returns-then-image_refused : tie.Need-returns-then-image_refused
+returns-then-image_refused c =
+    reading-nine _ _ _ _ _ (sym c.image_refused.ensures ∙ c.if-image_refused.true)
+
+state_of-s-requires : tie.Need-state_of-s-requires
+state_of-s-requires c κs =
+    image_fits _ (sym c.image_refused.ensures ∙ c.if-image_refused.false)
+
+transform-read-requires : tie.Need-transform-read-requires
+transform-read-requires c κs = search rules
+
+enum_known-read : tie.Need-enum_known-read
+enum_known-read c = search rules
+
+enum_told-1 : tie.Need-enum_told-1
+enum_told-1 c = search rules
+
+returns-in_default : tie.Need-returns-in_default
+unfolding transform_read_number
+returns-in_default c =
+    let at-image-refused = c in
+    let entry = c in
+    let a = entry.args in
+    reading-own _ _ _ _ _ (sym at-image-refused.image_refused.ensures ∙ c.if-image_refused.false)
+    (ap transform_read_number (sym (c.transform-read.ensures ∙ ap (λ s. transform_of s a.state) c.state_of-s.ensures) ∙ c.in_default.is))
+
+returns-then-out-ne-MATRIX_BYTES : tie.Need-returns-then-out-ne-MATRIX_BYTES
+unfolding transform_read_number
+returns-then-out-ne-MATRIX_BYTES c =
+    let at-state-of = c in
+    let at-if1 = c in
+    let at-image-refused = c in
+    let entry = c in
+    let a = entry.args in
+    reading-length _ _ _ _ _ (sym at-image-refused.image_refused.ensures ∙ at-if1.if-image_refused.false)
+    (ap transform_read_number (sym (c.transform-read.ensures ∙ ap (λ s. transform_of s a.state) at-state-of.state_of-s.ensures) ∙ c.in-Matrix.is))
+    (length_wrong 64 _ c.if-out-ne-MATRIX_BYTES.true)
+
+put_matrix-requires : tie.Need-put_matrix-requires
+put_matrix-requires c κs = search rules
+
+shape_of-out : tie.Need-shape_of-out
+shape_of-out c = search rules
 
 returns : tie.Need-returns
-returns c =
-    reading-nine _ _ _ _ _ (sym c.before.image-refused.ensures ∙ c.if1.true)
-
-state-of-requires : tie.Need-state-of-requires
-state-of-requires c κs =
-    image_fits _ (sym c.before.image-refused.ensures ∙ c.if1.false)
-
-transform-requires : tie.Need-transform-requires
-transform-requires c κs = search rules
-
-enum-known-read : tie.Need-enum-known-read
-enum-known-read c = search rules
-
-enum_told : tie.Need-enum-told
-enum_told c = search rules
-
-returns-2 : tie.Need-returns-2
-unfolding transform_read_number
-returns-2 c =
-    let at-image-refused = c.before.before.before.before.before in
-    let entry = c.before.before.before.before.before.before.before.before in
-    let a = entry.args in
-    reading-own _ _ _ _ _ (sym at-image-refused.image-refused.ensures ∙ c.before.before.before.before.if1.false)
-    (ap transform_read_number (sym (c.before.before.transform.ensures ∙ ap (λ s. transform_of s a.state) c.before.before.before.state-of.ensures) ∙ c.enum_told.given.1))
-
-returns-3 : tie.Need-returns-3
-unfolding transform_read_number
-returns-3 c =
-    let at-state-of = c.before.before.before.before.before in
-    let at-if1 = c.before.before.before.before.before.before in
-    let at-image-refused = c.before.before.before.before.before.before.before in
-    let entry = c.before.before.before.before.before.before.before.before.before.before in
-    let a = entry.args in
-    reading-length _ _ _ _ _ (sym at-image-refused.image-refused.ensures ∙ at-if1.if1.false)
-    (ap transform_read_number (sym (c.before.before.before.before.transform.ensures ∙ ap (λ s. transform_of s a.state) at-state-of.state-of.ensures) ∙ c.before.before.read.given.1))
-    (length_wrong 64 _ c.if2.true)
-
-put-matrix-requires : tie.Need-put-matrix-requires
-put-matrix-requires c κs = search rules
-
-same_length : tie.Need-same-length
-same_length c = search rules
-
-returns-4 : tie.Need-returns-4
 unfolding transform_read_number transform_read_matrix
-returns-4 c =
-    let entry = c.before.before.before.before.before.before.before.before.before.before.before.before.before.before in
+returns c =
+    let entry = c in
     let a = entry.args in
-    let r = c.before.before.before.before.before.before in
-    let t = r.before.before.before.before in
-    let found = sym (r.before.before.transform.ensures ∙ ap (λ s. transform_of s a.state) r.before.before.before.state-of.ensures) ∙ r.read.given.1 in
-    reading-done _ _ _ _ _ (sym t.before.image-refused.ensures ∙ t.if1.false) (ap transform_read_number found)
-    (length_right 64 _ c.before.before.before.before.if2.false)
-    (c.before.before.put-matrix.ensures ∙ put-matrix_bytes _ _ c.before.before.before.before.if2.false ∙ ap (λ q. matrix_bytes (transform_read_matrix q)) (sym found))
+    let r = c in
+    let t = r in
+    let found = sym (r.transform-read.ensures ∙ ap (λ s. transform_of s a.state) r.state_of-s.ensures) ∙ r.in-Matrix.is in
+    reading-done _ _ _ _ _ (sym t.image_refused.ensures ∙ t.if-image_refused.false) (ap transform_read_number found)
+    (length_right 64 _ c.if-out-ne-MATRIX_BYTES.false)
+    (c.put_matrix.ensures ∙ put-matrix_bytes _ _ c.if-out-ne-MATRIX_BYTES.false ∙ ap (λ q. matrix_bytes (transform_read_matrix q)) (sym found))
 
 pub transform_spec : {M : Type 1} → statement M
 transform_spec =
     tie.close
     (tie.spec
-    image-refused-requires
-    returns
-    state-of-requires
-    transform-requires
-    enum-known-read
-    enum_told
-    returns-2
-    returns-3
-    put-matrix-requires
-    same_length
-    returns-4)
+    image_refused-requires
+    returns-then-image_refused
+    state_of-s-requires
+    transform-read-requires
+    enum_known-read
+    enum_told-1
+    returns-in_default
+    returns-then-out-ne-MATRIX_BYTES
+    put_matrix-requires
+    shape_of-out
+    returns)

@@ -7,30 +7,30 @@ use borrow.Author.Rules.{rules}
 use Rattle.transform_calls.proofs.transforms.world_palette_used.Statement.{statement}
 use Rattle.transform_calls.proofs.transforms.world_palette_used.Tie as tie
 
-image-refused-requires : tie.Need-image-refused-requires
-image-refused-requires c κs = search rules
+image_refused-requires : tie.Need-image_refused-requires
+image_refused-requires c κs = search rules
+
+returns-then-image_refused : tie.Need-returns-then-image_refused
+returns-then-image_refused c =
+    reading-nine _ _ _ _ _ (sym c.before.image_refused.ensures ∙ c.if-image_refused.true)
+
+state_of-s-requires : tie.Need-state_of-s-requires
+state_of-s-requires c κs =
+    image_fits _ (sym c.before.image_refused.ensures ∙ c.if-image_refused.false)
+
+world_palette_used-requires : tie.Need-world_palette_used-requires
+world_palette_used-requires c κs = search rules
 
 returns : tie.Need-returns
 returns c =
-    reading-nine _ _ _ _ _ (sym c.before.image-refused.ensures ∙ c.if1.true)
-
-state-of-requires : tie.Need-state-of-requires
-state-of-requires c κs =
-    image_fits _ (sym c.before.image-refused.ensures ∙ c.if1.false)
-
-world-palette-used-requires : tie.Need-world-palette-used-requires
-world-palette-used-requires c κs = search rules
-
-returns-2 : tie.Need-returns-2
-returns-2 c =
-    reading-done _ _ _ _ _ (sym c.before.before.before.image-refused.ensures ∙ c.before.before.if1.false) refl refl (c.world-palette-used.ensures ∙ ap world_palette_used c.before.state-of.ensures)
+    reading-done _ _ _ _ _ (sym c.before.before.before.image_refused.ensures ∙ c.before.before.if-image_refused.false) refl refl (c.world_palette_used.ensures ∙ ap world_palette_used c.before.state_of-s.ensures)
 
 pub world_palette_used_spec : {M : Type 1} → statement M
 world_palette_used_spec =
     tie.close
     (tie.spec
-    image-refused-requires
-    returns
-    state-of-requires
-    world-palette-used-requires
-    returns-2)
+    image_refused-requires
+    returns-then-image_refused
+    state_of-s-requires
+    world_palette_used-requires
+    returns)

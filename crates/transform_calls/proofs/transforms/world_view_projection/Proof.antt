@@ -10,48 +10,48 @@ use borrow.Author.Rules.{rules}
 use Rattle.transform_calls.proofs.transforms.world_view_projection.Statement.{statement}
 use Rattle.transform_calls.proofs.transforms.world_view_projection.Tie as tie
 
-image-refused-requires : tie.Need-image-refused-requires
-image-refused-requires c κs = search rules
+image_refused-requires : tie.Need-image_refused-requires
+image_refused-requires c κs = search rules
+
+returns-then-image_refused : tie.Need-returns-then-image_refused
+returns-then-image_refused c =
+    reading-nine _ _ _ _ _ (sym c.before.image_refused.ensures ∙ c.if-image_refused.true)
+
+returns-then-out-ne-MATRIX_BYTES : tie.Need-returns-then-out-ne-MATRIX_BYTES
+returns-then-out-ne-MATRIX_BYTES c =
+    reading-length _ _ _ _ _ (sym c.before.before.image_refused.ensures ∙ c.before.if-image_refused.false) refl (length_wrong 64 _ c.if-out-ne-MATRIX_BYTES.true)
+
+state_of-s-requires : tie.Need-state_of-s-requires
+state_of-s-requires c κs =
+    image_fits _ (sym c.before.before.image_refused.ensures ∙ c.before.if-image_refused.false)
+
+world_view_projection-m-requires : tie.Need-world_view_projection-m-requires
+world_view_projection-m-requires c κs = search rules
+
+put_matrix-requires : tie.Need-put_matrix-requires
+put_matrix-requires c κs = search rules
+
+shape_of-out : tie.Need-shape_of-out
+shape_of-out c = search rules
 
 returns : tie.Need-returns
 returns c =
-    reading-nine _ _ _ _ _ (sym c.before.image-refused.ensures ∙ c.if1.true)
-
-returns-2 : tie.Need-returns-2
-returns-2 c =
-    reading-length _ _ _ _ _ (sym c.before.before.image-refused.ensures ∙ c.before.if1.false) refl (length_wrong 64 _ c.if2.true)
-
-state-of-requires : tie.Need-state-of-requires
-state-of-requires c κs =
-    image_fits _ (sym c.before.before.image-refused.ensures ∙ c.before.if1.false)
-
-world-view-projection-requires : tie.Need-world-view-projection-requires
-world-view-projection-requires c κs = search rules
-
-put-matrix-requires : tie.Need-put-matrix-requires
-put-matrix-requires c κs = search rules
-
-same_length : tie.Need-same-length
-same_length c = search rules
-
-returns-3 : tie.Need-returns-3
-returns-3 c =
     let at-state-of = c.before.before.before.before.before in
     let t = c.before.before.before.before.before.before in
-    reading-done _ _ _ _ _ (sym t.before.before.image-refused.ensures ∙ t.before.if1.false) refl (length_right 64 _ t.if2.false)
-    (c.before.before.put-matrix.ensures
-    ∙ put-matrix_bytes _ _ t.if2.false
-    ∙ ap matrix_bytes (c.before.before.before.before.world-view-projection.ensures ∙ ap world_view_projection at-state-of.state-of.ensures))
+    reading-done _ _ _ _ _ (sym t.before.before.image_refused.ensures ∙ t.before.if-image_refused.false) refl (length_right 64 _ t.if-out-ne-MATRIX_BYTES.false)
+    (c.before.before.put_matrix.ensures
+    ∙ put-matrix_bytes _ _ t.if-out-ne-MATRIX_BYTES.false
+    ∙ ap matrix_bytes (c.before.before.before.before.world_view_projection-m.ensures ∙ ap world_view_projection at-state-of.state_of-s.ensures))
 
 pub world_view_projection_spec : {M : Type 1} → statement M
 world_view_projection_spec =
     tie.close
     (tie.spec
-    image-refused-requires
-    returns
-    returns-2
-    state-of-requires
-    world-view-projection-requires
-    put-matrix-requires
-    same_length
-    returns-3)
+    image_refused-requires
+    returns-then-image_refused
+    returns-then-out-ne-MATRIX_BYTES
+    state_of-s-requires
+    world_view_projection-m-requires
+    put_matrix-requires
+    shape_of-out
+    returns)
