@@ -1,5 +1,7 @@
 // The calls of a list on the running image, with the item for the slices that they are lent, and
 // what is told of a call.
+#![tactic(auto)]
+
 mod item;
 mod puts;
 mod reply;

@@ -1,8 +1,8 @@
-// Standard input, a line at a time.
-ghost use Rattle.std.specs.Prelude.{◌≤◌, length};
+// What a reader gives, a line at a time.
+ghost use Rattle.std.specs.Prelude.{◌≤◌, IfOk, length};
 ghost use Rattle.replay_input.specs.Line.{Fitting};
 
-use libc::STDIN_FILENO;
+use std::io::{Read, Result};
 
 // Where the bytes of the block that are not taken yet begin and end, how many bytes of the line are
 // kept, and whether its newline was found.
@@ -45,59 +45,59 @@ fn keep(line: &mut [u8], kept: usize, b: u8) -> usize
 }
 
 // Reads once where no byte of the block is left: none came at the end of the input.
-fn refill(block: &mut [u8], at: usize, end: usize) -> Left
+fn refill<R: Read>(reader: &mut R, block: &mut [u8], at: usize, end: usize) -> Result<Left>
     requires { (at ≤ end) × (end ≤ length block.old) }
-    ensures { (result.at ≤ result.end) × (result.end ≤ length block.old) }
+    ensures { IfOk result (λ left. (left.at ≤ left.end) × (left.end ≤ length block.old)) }
 {
     if at < end {
-        return Left { at, end };
+        return Ok(Left { at, end });
     }
-    let got = libc::read(STDIN_FILENO, block);
-    Left {
-        at: 0,
-        end: io::count(got, block),
-    }
+    let got = reader.read(block)?;
+    Ok(Left { at: 0, end: got })
 }
 
 // Puts the next line, without its newline, at the start of `line`. A loop has to end, and nothing
-// says that the input does: so the turns are counted down, from a number that no run uses up.
-pub fn next_line(block: &mut [u8; 4096], line: &mut [u8; 1024], from: Input) -> Input
+// says that the input does: so the turns are counted, up to a number that no run reaches.
+pub fn next_line<R: Read>(
+    reader: &mut R,
+    block: &mut [u8; 4096],
+    line: &mut [u8; 1024],
+    from: Input,
+) -> Result<Input>
     requires { Fitting from }
-    ensures { Fitting result }
+    ensures { IfOk result Fitting }
 {
     let mut at = from.at;
     let mut end = from.end;
     let mut kept = 0usize;
-    let mut turns = u64::MAX;
-    while turns > 0 {
-        let left = refill(block, at, end);
+    for _ in 0..u64::MAX {
+        let left = refill(reader, block, at, end)?;
         at = left.at;
         end = left.end;
         if at == end {
-            return Input {
+            return Ok(Input {
                 at,
                 end,
                 line: kept,
                 whole: false,
-            };
+            });
         }
         let b = block[at];
         at += 1;
         if b == b'\n' {
-            return Input {
+            return Ok(Input {
                 at,
                 end,
                 line: kept,
                 whole: true,
-            };
+            });
         }
         kept = keep(line, kept, b);
-        turns -= 1;
     }
-    Input {
+    Ok(Input {
         at,
         end,
         line: kept,
         whole: false,
-    }
+    })
 }

@@ -1,4 +1,6 @@
-// The lines of standard input, each read as a letter and words.
+// The lines that a reader gives, each read as a letter and words.
+#![tactic(auto)]
+
 mod input;
 mod line;
 

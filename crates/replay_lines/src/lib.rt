@@ -1,4 +1,4 @@
-// Replays a list of calls from standard input to standard output. A line has a letter and the bits
+// Replays a list of calls from a reader to a writer. A line has a letter and the bits
 // of the arguments, floats as words of eight hexadecimal digits, a matrix as 16 of them by rows:
 //
 //     s W           float32::sqrt
@@ -50,6 +50,8 @@
 // things are the number that it was lent (0 where it was lent none), and the digests of the item, of
 // the image and of the mirror: from 0, for each byte the sum with the byte and 1, times 0x01000193,
 // modulo 2^32.
+#![tactic(auto)]
+
 mod line;
 mod stream;
 

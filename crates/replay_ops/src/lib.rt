@@ -1,5 +1,7 @@
 // Arithmetic, a letter for each call. The words of a call come in one array, and those of its answer
 // go to another.
+#![tactic(auto)]
+
 ghost use Rattle.std.specs.Prelude.{◌+◌, ◌≤◌};
 ghost use Rattle.replay_text.specs.Answer.{Within};
 

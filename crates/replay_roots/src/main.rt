@@ -2,6 +2,10 @@
 // and stdout beside src/ are made of it:
 //
 //     awk '/^[0-9a-f]/ { print "s " $1 > "stdin"; print $2 > "stdout" }' ../../oracle/root_vectors.txt
-fn main() {
-    replay_lines::replay();
+#![tactic(auto)]
+
+use std::io::Result;
+
+fn main(rt: HostRuntime) -> Result<()> {
+    replay_lines::replay(&mut rt.stdin(), &mut rt.stdout())
 }

@@ -1,4 +1,6 @@
 // Words as text, and answers, through a buffer that is written when it is full.
+#![tactic(auto)]
+
 mod answer;
 mod hex;
 mod room;

@@ -8,5 +8,7 @@ pub fn put_text(dst: &mut [u8], at: usize, s: &[u8]) -> usize
     ensures value { result ≡ at + length s.now }
     ensures dst_after { dst.new ≡ laid dst.old at s.now }
 {
-    at + bytes::copy(s, &mut dst[at..])
+    let end = at + s.len();
+    dst[at..end].copy_from_slice(s);
+    end
 }
