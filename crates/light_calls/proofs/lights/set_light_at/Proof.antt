@@ -37,7 +37,7 @@ returns-then-not-has_room : tie.Need-returns-then-not-has_room
 returns-then-not-has_room c =
     let a = c.args in
     changing-own _ _ _ (sym c.image_refused.ensures ∙ c.if-image_refused.false)
-    (set_full _ _ (light_at a.light.now 0) (sym (c.has_room.ensures ∙ ap (λ s. has_room s a.index) c.state_of-s.ensures) ∙ not-true _ c.if-not-has_room.true))
+    (set_full _ _ (light_at a.light.now 0) (sym (c.has_room.ensures ∙ ap (λ s. has_room s a.index) c.state_of-s.ensures) ∙ c.if-not-has_room.true))
 
 shape_of-image-then-light-ne-LIGHT_BYTES : tie.Need-shape_of-image-then-light-ne-LIGHT_BYTES
 shape_of-image-then-light-ne-LIGHT_BYTES c = search rules
@@ -46,7 +46,7 @@ returns-then-light-ne-LIGHT_BYTES : tie.Need-returns-then-light-ne-LIGHT_BYTES
 returns-then-light-ne-LIGHT_BYTES c =
     let a = c.args in
     changing-length _ _ _ (sym c.image_refused.ensures ∙ c.if-image_refused.false)
-    (set_room _ _ (light_at a.light.now 0) (sym (c.has_room.ensures ∙ ap (λ s. has_room s a.index) c.state_of-s.ensures) ∙ not-false _ c.if-not-has_room.false)) (length_wrong 104 _ c.if-light-ne-LIGHT_BYTES.true)
+    (set_room _ _ (light_at a.light.now 0) (sym (c.has_room.ensures ∙ ap (λ s. has_room s a.index) c.state_of-s.ensures) ∙ c.if-not-has_room.false)) (length_wrong 104 _ c.if-light-ne-LIGHT_BYTES.true)
 
 light_at-requires : tie.Need-light_at-requires
 light_at-requires c κs = search rules
@@ -65,7 +65,7 @@ returns : tie.Need-returns
 returns c =
     let a = c.args in
     changing-done _ _ _ (sym c.image_refused.ensures ∙ c.if-image_refused.false)
-    (set_room _ _ (light_at a.light.now 0) (sym (c.has_room.ensures ∙ ap (λ c. has_room c a.index) c.state_of-s.ensures) ∙ not-false _ c.if-not-has_room.false))
+    (set_room _ _ (light_at a.light.now 0) (sym (c.has_room.ensures ∙ ap (λ s. has_room s a.index) c.state_of-s.ensures) ∙ c.if-not-has_room.false))
     (length_right 104 _ c.if-light-ne-LIGHT_BYTES.false)
     (c.put_state.ensures
     ∙ ap (λ (c : LightChanged). image_bytes c.state)

@@ -37,7 +37,7 @@ returns-then-not-has_room : tie.Need-returns-then-not-has_room
 returns-then-not-has_room c =
     let a = c.args in
     changing-own _ _ _ (sym c.image_refused.ensures ∙ c.if-image_refused.false)
-    (enable-full _ _ (not (eqb a.enabled 0)) (sym (c.has_room.ensures ∙ ap (λ s. has_room s a.index) c.state_of-s.ensures) ∙ not-true _ c.if-not-has_room.true))
+    (enable-full _ _ (not (eqb a.enabled 0)) (sym (c.has_room.ensures ∙ ap (λ s. has_room s a.index) c.state_of-s.ensures) ∙ c.if-not-has_room.true))
 
 set_light_enabled_at-c-requires : tie.Need-set_light_enabled_at-c-requires
 set_light_enabled_at-c-requires c κs = search rules
@@ -53,7 +53,7 @@ returns : tie.Need-returns
 returns c =
     let a = c.args in
     changing-done _ _ _ (sym c.image_refused.ensures ∙ c.if-image_refused.false)
-    (enable-room _ _ (not (eqb a.enabled 0)) (sym (c.has_room.ensures ∙ ap (λ c. has_room c a.index) c.state_of-s.ensures) ∙ not-false _ c.if-not-has_room.false))
+    (enable-room _ _ (not (eqb a.enabled 0)) (sym (c.has_room.ensures ∙ ap (λ s. has_room s a.index) c.state_of-s.ensures) ∙ c.if-not-has_room.false))
     refl
     (c.put_state.ensures
     ∙ ap (λ (t : LightChanged). image_bytes t.state)

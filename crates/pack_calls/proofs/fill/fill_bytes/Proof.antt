@@ -43,7 +43,7 @@ returns-in-Packed c =
     let fine = sym (number_is _ _ _ a.floats.now q.0 c.pack_section-answer.ensures) ∙ ap pack_number c.in-Packed.is in
     accepted _ a.dst.now fine
     (c.put_floats.ensures
-    ∙ put_whole _ a.dst.now (q.1 ∙ sym (length-listBytes float_bytes 4 length-float_bytes _ ∙ ap (λ (n : ℕ). 4 * n) c.pack_section-answer.auto.1.1.1.0))
+    ∙ put_whole _ a.dst.now (q.1 ∙ sym (length-listBytes float_bytes 4 length-float_bytes _ ∙ ap (λ (n : ℕ). 4 * n) c.pack_section-answer.auto.dst))
     ∙ ap (list_bytes float_bytes) (rows_are _ _ _ a.floats.now q.0 c.pack_section-answer.ensures fine))
 
 shape_of-floats-in-WrongLength : tie.Need-shape_of-floats-in-WrongLength

@@ -43,7 +43,7 @@ loop-i-smaller c = omega arith
 loop-i-preserved : tie.Need-loop-i-preserved invariant-loop-i decreases-loop-i
 loop-i-preserved c =
     let a = c.args in
-    goes_on float_bytes _ a.at a.xs.now a.dst.now 4 length-float_bytes c.loop-i.i _ c.loop-i.dst _ c.requires c.loop-i.invariant (omega arith) c.put_f32.auto.0 c.put_f32.ensures
+    goes_on float_bytes _ a.at a.xs.now a.dst.now 4 length-float_bytes c.loop-i.i _ c.loop-i.dst _ c.requires c.loop-i.invariant (omega arith) c.put_f32.auto.dst c.put_f32.ensures
 
 shape_of-dst : tie.Need-shape_of-dst invariant-loop-i decreases-loop-i
 shape_of-dst c = c.loop-i.invariant.same
