@@ -30,14 +30,14 @@ of_value x s n h =
     let v : HasValue x s (n * unit) unit = to_units x s n unit h in
     record { is_finite = has_finite x s (n * unit) unit v; is = has_units x s (n * unit) v ∙ sym (sign_scale s n unit) }
 
-of_int : (z : ℤ) → nat_abs z ≤ 2 ^ 24 → IsWhole (of_int binary32 z) z
+of-int : (z : ℤ) → nat_abs z ≤ 2 ^ 24 → IsWhole (of_int binary32 z) z
 unfolding of_int
-of_int (pos n) h = of_value (of_int binary32 (pos n)) false n (round_whole binary32 false n h)
-of_int (negsuc n) h = of_value (of_int binary32 (negsuc n)) true (suc n) (round_whole binary32 true (suc n) h)
+of-int (pos n) h = of_value (of_int binary32 (pos n)) false n (round_whole binary32 false n h)
+of-int (negsuc n) h = of_value (of_int binary32 (negsuc n)) true (suc n) (round_whole binary32 true (suc n) h)
 
 pub wholes_are : (n : ℕ → ℕ → ℤ) → ((i j : ℕ) → i < 4 → j < 4 → nat_abs (n i j) ≤ 1024) → WholeEntries (wholes n) n
 wholes_are n h =
     record {
-      whole = λ i j I J. subst (λ (x : Float). IsWhole x (n i j)) (sym (entry-matrix_of (λ i j. of_int binary32 (n i j)) i j I J)) (of_int (n i j) (le_trans (h i j I J) (lit≤ tt)));
+      whole = λ i j I J. subst (λ (x : Float). IsWhole x (n i j)) (sym (entry-matrix_of (λ i j. of_int binary32 (n i j)) i j I J)) (of-int (n i j) (le_trans (h i j I J) (lit≤ tt)));
       small = λ i j I J. le_trans (h i j I J) (lit≤ {m = 1024} {n = largest_whole} tt);
     }

@@ -6,24 +6,27 @@ use borrow.Author.Rules.{rules}
 use Rattle.refresh_calls.proofs.mirror.refresh.Statement.{statement}
 use Rattle.refresh_calls.proofs.mirror.refresh.Tie as tie
 
-key-of-requires : tie.Need-key-of-requires
-key-of-requires c κs = search rules
+key_of-key-requires : tie.Need-key_of-key-requires
+key_of-key-requires c κs = search rules
 
-refresh-keyed-requires : tie.Need-refresh-keyed-requires
-refresh-keyed-requires c κs = search rules
+refresh_keyed-requires : tie.Need-refresh_keyed-requires
+refresh_keyed-requires c κs = search rules
 
-same_length : tie.Need-same-length
-same_length c = search rules
+shape_of-image : tie.Need-shape_of-image
+shape_of-image c = search rules
 
-same-length-2 : tie.Need-same-length-2
-same-length-2 c = search rules
+shape_of-mirror : tie.Need-shape_of-mirror
+shape_of-mirror c = search rules
 
 returns : tie.Need-returns
 returns c =
-    let done = c.before.before.before.before in
-    let keyed = done.before.before.before.before in
-    let a = keyed.before.before.before.args in
-    done.refresh-keyed.ensures ∙ ap (λ k. ff_refresh a.image.now k a.mirror.now a.out.now) keyed.key_of.ensures
+    let a = c.args in
+    c.refresh_keyed.ensures ∙ ap (λ k. ff_refresh a.image.now k a.mirror.now a.out.now) c.key_of-key.ensures
 
 pub refresh_spec : {M : Type 1} → statement M
-refresh_spec = tie.close (tie.spec key-of-requires refresh-keyed-requires same_length same-length-2 returns)
+refresh_spec = tie.close (tie.spec
+    key_of-key-requires
+    refresh_keyed-requires
+    shape_of-image
+    shape_of-mirror
+    returns)

@@ -23,100 +23,100 @@ use Rattle.refresh_calls.proofs.mirror.refresh_keyed.Statement.{statement}
 use Rattle.refresh_calls.proofs.mirror.refresh_keyed.Tie as tie
 
 -- the bytes are an image, and the mirror has its length
-good-image : (c : tie.Else2) → refused c.before.before.before.before.before.before.args.image.now ≡ false
-good-image c = sym c.before.before.image-refused.ensures ∙ c.before.if1.false
+good-image : (c : tie.Else-mirror-ne-MIRROR_BYTES) → refused c.args.image.now ≡ false
+good-image c = sym c.before.before.image_refused.ensures ∙ c.before.if-image_refused.false
 
-answer-of : (c : tie.After-refresh-answer) → c.refresh-answer.result ≡ refresh_answer (state_of c.before.before.before.before.before.before.before.before.before.args.image.now) c.before.before.before.before.before.before.before.before.before.args.key 4460
+answer-of : (c : tie.After-refresh_answer-answer) → c.refresh_answer-answer.result ≡ refresh_answer (state_of c.args.image.now) c.args.key 4460
 answer-of c =
     let entry = c.before.before.before.before.before.before.before.before.before in
-    c.refresh-answer.ensures ∙ ap (λ (s : FfState). refresh_answer s entry.args.key 4460) c.before.state-of.ensures
+    c.refresh_answer-answer.ensures ∙ ap (λ (s : FfState). refresh_answer s entry.args.key 4460) c.before.state_of-s.ensures
 
-image-refused-requires : tie.Need-image-refused-requires
-image-refused-requires c κs = search rules
+image_refused-requires : tie.Need-image_refused-requires
+image_refused-requires c κs = search rules
 
-same_length : tie.Need-same-length
-same_length c = search rules
+shape_of-image-then-image_refused : tie.Need-shape_of-image-then-image_refused
+shape_of-image-then-image_refused c = search rules
 
-returns : tie.Need-returns
-returns c = refresh-nine _ _ _ _ (sym c.before.image-refused.ensures ∙ c.if1.true)
+returns-then-image_refused : tie.Need-returns-then-image_refused
+returns-then-image_refused c = refresh-nine _ _ _ _ (sym c.before.image_refused.ensures ∙ c.if-image_refused.true)
 
-same-length-2 : tie.Need-same-length-2
-same-length-2 c = search rules
+shape_of-image-then-mirror-ne-MIRROR_BYTES : tie.Need-shape_of-image-then-mirror-ne-MIRROR_BYTES
+shape_of-image-then-mirror-ne-MIRROR_BYTES c = search rules
 
-returns-2 : tie.Need-returns-2
-returns-2 c = refresh-four _ _ _ _ (sym c.before.before.image-refused.ensures ∙ c.before.if1.false) c.if2.true
+returns-then-mirror-ne-MIRROR_BYTES : tie.Need-returns-then-mirror-ne-MIRROR_BYTES
+returns-then-mirror-ne-MIRROR_BYTES c = refresh-four _ _ _ _ (sym c.before.before.image_refused.ensures ∙ c.before.if-image_refused.false) c.if-mirror-ne-MIRROR_BYTES.true
 
-state-of-requires : tie.Need-state-of-requires
-state-of-requires c κs = image_fits _ (good-image c.before)
+state_of-s-requires : tie.Need-state_of-s-requires
+state_of-s-requires c κs = image_fits _ (good-image c.before)
 
-refresh-answer-requires : tie.Need-refresh-answer-requires
-refresh-answer-requires c κs = search rules
+refresh_answer-answer-requires : tie.Need-refresh_answer-answer-requires
+refresh_answer-answer-requires c κs = search rules
 
-enum_told : tie.Need-enum-told
-enum_told c = search rules
+enum_told-1 : tie.Need-enum_told-1
+enum_told-1 c = search rules
 
-enum-told-2 : tie.Need-enum-told-2
-enum-told-2 c = search rules
+enum_told-in-HasRhw : tie.Need-enum_told-in-HasRhw
+enum_told-in-HasRhw c = search rules
 
-enum-told-3 : tie.Need-enum-told-3
-enum-told-3 c = search rules
+enum_told-in-WrongMask : tie.Need-enum_told-in-WrongMask
+enum_told-in-WrongMask c = search rules
 
-enum-told-4 : tie.Need-enum-told-4
-enum-told-4 c = search rules
+enum_told-in-Accepted : tie.Need-enum_told-in-Accepted
+enum_told-in-Accepted c = search rules
 
-take-ff-vs-dirty-requires : tie.Need-take-ff-vs-dirty-requires
-take-ff-vs-dirty-requires c κs = search rules
+take_ff_vs_dirty-taken-requires : tie.Need-take_ff_vs_dirty-taken-requires
+take_ff_vs_dirty-taken-requires c κs = search rules
 
-write-section-bytes-requires : tie.Need-write-section-bytes-requires
-write-section-bytes-requires c κs =
+write_section_bytes-requires : tie.Need-write_section_bytes-requires
+write_section_bytes-requires c κs =
     let told = c.before.before.before in
     let asked = told.before.before in
-    (asked.before.before.before.if2.false, (accepted_fits _ _ _ (sym asked.refresh-answer.ensures ∙ told.enum-told4.given.1)).mask)
+    (asked.before.before.before.if-mirror-ne-MIRROR_BYTES.false, (accepted_fits _ _ _ (sym asked.refresh_answer-answer.ensures ∙ told.in-Accepted.is)).mask)
 
-write-section-bytes-requires-2 : tie.Need-write-section-bytes-requires-2
-write-section-bytes-requires-2 c κs =
+write_section_bytes-requires-in-Accepted : tie.Need-write_section_bytes-requires-in-Accepted
+write_section_bytes-requires-in-Accepted c κs =
     let wrote = c.before.before.before in
-    let had = write-section-bytes-requires wrote.before κs in
-    (wrote.write-section-bytes.auto.1.1.1.1.0 ∙ had.0, had.1)
+    let had = write_section_bytes-requires wrote.before κs in
+    (wrote.write_section_bytes.auto.1.1.1.1.0 ∙ had.0, had.1)
 
-write-section-bytes-requires-3 : tie.Need-write-section-bytes-requires-3
-write-section-bytes-requires-3 c κs =
+write_section_bytes-requires-in-Accepted-2 : tie.Need-write_section_bytes-requires-in-Accepted-2
+write_section_bytes-requires-in-Accepted-2 c κs =
     let wrote = c.before.before.before in
-    let had = write-section-bytes-requires-2 wrote.before κs in
-    (wrote.write-section-bytes2.auto.1.1.1.1.0 ∙ had.0, had.1)
+    let had = write_section_bytes-requires-in-Accepted wrote.before κs in
+    (wrote.write_section_bytes-in-Accepted.auto.1.1.1.1.0 ∙ had.0, had.1)
 
-write-section-bytes-requires-4 : tie.Need-write-section-bytes-requires-4
-write-section-bytes-requires-4 c κs =
+write_section_bytes-requires-in-Accepted-3 : tie.Need-write_section_bytes-requires-in-Accepted-3
+write_section_bytes-requires-in-Accepted-3 c κs =
     let wrote = c.before.before.before in
-    let had = write-section-bytes-requires-3 wrote.before κs in
-    (wrote.write-section-bytes3.auto.1.1.1.1.0 ∙ had.0, had.1)
+    let had = write_section_bytes-requires-in-Accepted-2 wrote.before κs in
+    (wrote.write_section_bytes-in-Accepted-2.auto.1.1.1.1.0 ∙ had.0, had.1)
 
-write-section-bytes-requires-5 : tie.Need-write-section-bytes-requires-5
-write-section-bytes-requires-5 c κs =
+write_section_bytes-requires-in-Accepted-4 : tie.Need-write_section_bytes-requires-in-Accepted-4
+write_section_bytes-requires-in-Accepted-4 c κs =
     let wrote = c.before.before.before in
-    let had = write-section-bytes-requires-4 wrote.before κs in
-    (wrote.write-section-bytes4.auto.1.1.1.1.0 ∙ had.0, had.1)
+    let had = write_section_bytes-requires-in-Accepted-3 wrote.before κs in
+    (wrote.write_section_bytes-in-Accepted-3.auto.1.1.1.1.0 ∙ had.0, had.1)
 
-write-section-bytes-requires-6 : tie.Need-write-section-bytes-requires-6
-write-section-bytes-requires-6 c κs =
+write_section_bytes-requires-in-Accepted-5 : tie.Need-write_section_bytes-requires-in-Accepted-5
+write_section_bytes-requires-in-Accepted-5 c κs =
     let wrote = c.before.before.before in
-    let had = write-section-bytes-requires-5 wrote.before κs in
-    (wrote.write-section-bytes5.auto.1.1.1.1.0 ∙ had.0, had.1)
+    let had = write_section_bytes-requires-in-Accepted-4 wrote.before κs in
+    (wrote.write_section_bytes-in-Accepted-4.auto.1.1.1.1.0 ∙ had.0, had.1)
 
-write-section-bytes-requires-7 : tie.Need-write-section-bytes-requires-7
-write-section-bytes-requires-7 c κs =
+write_section_bytes-requires-in-Accepted-6 : tie.Need-write_section_bytes-requires-in-Accepted-6
+write_section_bytes-requires-in-Accepted-6 c κs =
     let wrote = c.before.before.before in
-    let had = write-section-bytes-requires-6 wrote.before κs in
-    (wrote.write-section-bytes6.auto.1.1.1.1.0 ∙ had.0, had.1)
+    let had = write_section_bytes-requires-in-Accepted-5 wrote.before κs in
+    (wrote.write_section_bytes-in-Accepted-5.auto.1.1.1.1.0 ∙ had.0, had.1)
 
-write-section-bytes-requires-8 : tie.Need-write-section-bytes-requires-8
-write-section-bytes-requires-8 c κs =
+write_section_bytes-requires-in-Accepted-7 : tie.Need-write_section_bytes-requires-in-Accepted-7
+write_section_bytes-requires-in-Accepted-7 c κs =
     let wrote = c.before.before.before in
-    let had = write-section-bytes-requires-7 wrote.before κs in
-    (wrote.write-section-bytes7.auto.1.1.1.1.0 ∙ had.0, had.1)
+    let had = write_section_bytes-requires-in-Accepted-6 wrote.before κs in
+    (wrote.write_section_bytes-in-Accepted-6.auto.1.1.1.1.0 ∙ had.0, had.1)
 
-put-state-requires : tie.Need-put-state-requires
-put-state-requires c κs =
+put_state-requires : tie.Need-put_state-requires
+put_state-requires c κs =
     let ws8 = c.before.before.before in
     let ws7 = ws8.before.before.before.before in
     let ws6 = ws7.before.before.before.before in
@@ -128,41 +128,41 @@ put-state-requires c κs =
     let told = ws1.before.before.before.before in
     image_long _ (good-image told.before.before.before.before.before)
 
-same-length-3 : tie.Need-same-length-3
-same-length-3 c = search rules
+shape_of-image-in-WrongLength : tie.Need-shape_of-image-in-WrongLength
+shape_of-image-in-WrongLength c = search rules
 
-returns-3 : tie.Need-returns-3
+returns-in-WrongLength : tie.Need-returns-in-WrongLength
 unfolding refresh_number
-returns-3 c =
+returns-in-WrongLength c =
     let asked = c.before.before in
     let else2 = asked.before.before.before in
-    refresh-refused _ _ _ _ (good-image else2) else2.if2.false (ap refresh_number (sym (answer-of asked) ∙ c.enum_told.given.1))
+    refresh-refused _ _ _ _ (good-image else2) else2.if-mirror-ne-MIRROR_BYTES.false (ap refresh_number (sym (answer-of asked) ∙ c.in-WrongLength.is))
 
-same-length-4 : tie.Need-same-length-4
-same-length-4 c = search rules
+shape_of-image-in-HasRhw : tie.Need-shape_of-image-in-HasRhw
+shape_of-image-in-HasRhw c = search rules
 
-returns-4 : tie.Need-returns-4
+returns-in-HasRhw : tie.Need-returns-in-HasRhw
 unfolding refresh_number
-returns-4 c =
+returns-in-HasRhw c =
     let asked = c.before.before in
     let else2 = asked.before.before.before in
-    refresh-refused _ _ _ _ (good-image else2) else2.if2.false (ap refresh_number (sym (answer-of asked) ∙ c.enum-told2.given.1))
+    refresh-refused _ _ _ _ (good-image else2) else2.if-mirror-ne-MIRROR_BYTES.false (ap refresh_number (sym (answer-of asked) ∙ c.in-HasRhw.is))
 
-same-length-5 : tie.Need-same-length-5
-same-length-5 c = search rules
+shape_of-image-in-WrongMask : tie.Need-shape_of-image-in-WrongMask
+shape_of-image-in-WrongMask c = search rules
 
-returns-5 : tie.Need-returns-5
+returns-in-WrongMask : tie.Need-returns-in-WrongMask
 unfolding refresh_number
-returns-5 c =
+returns-in-WrongMask c =
     let asked = c.before.before in
     let else2 = asked.before.before.before in
-    refresh-refused _ _ _ _ (good-image else2) else2.if2.false (ap refresh_number (sym (answer-of asked) ∙ c.enum-told3.given.1))
+    refresh-refused _ _ _ _ (good-image else2) else2.if-mirror-ne-MIRROR_BYTES.false (ap refresh_number (sym (answer-of asked) ∙ c.in-WrongMask.is))
 
-same-length-6 : tie.Need-same-length-6
-same-length-6 c = search rules
+shape_of-image-in-Accepted : tie.Need-shape_of-image-in-Accepted
+shape_of-image-in-Accepted c = search rules
 
-same-length-7 : tie.Need-same-length-7
-same-length-7 c =
+shape_of-mirror : tie.Need-shape_of-mirror
+shape_of-mirror c =
     let ws8 = c.before.before.before.before.before.before in
     let ws7 = ws8.before.before.before.before in
     let ws6 = ws7.before.before.before.before in
@@ -171,18 +171,18 @@ same-length-7 c =
     let ws3 = ws4.before.before.before.before in
     let ws2 = ws3.before.before.before.before in
     let ws1 = ws2.before.before.before.before in
-    ws8.write-section-bytes8.auto.1.1.1.1.0
-    ∙ ws7.write-section-bytes7.auto.1.1.1.1.0
-    ∙ ws6.write-section-bytes6.auto.1.1.1.1.0
-    ∙ ws5.write-section-bytes5.auto.1.1.1.1.0
-    ∙ ws4.write-section-bytes4.auto.1.1.1.1.0
-    ∙ ws3.write-section-bytes3.auto.1.1.1.1.0
-    ∙ ws2.write-section-bytes2.auto.1.1.1.1.0
-    ∙ ws1.write-section-bytes.auto.1.1.1.1.0
+    ws8.write_section_bytes-in-Accepted-7.auto.1.1.1.1.0
+    ∙ ws7.write_section_bytes-in-Accepted-6.auto.1.1.1.1.0
+    ∙ ws6.write_section_bytes-in-Accepted-5.auto.1.1.1.1.0
+    ∙ ws5.write_section_bytes-in-Accepted-4.auto.1.1.1.1.0
+    ∙ ws4.write_section_bytes-in-Accepted-3.auto.1.1.1.1.0
+    ∙ ws3.write_section_bytes-in-Accepted-2.auto.1.1.1.1.0
+    ∙ ws2.write_section_bytes-in-Accepted.auto.1.1.1.1.0
+    ∙ ws1.write_section_bytes.auto.1.1.1.1.0
 
-returns-6 : tie.Need-returns-6
+returns-in-Accepted : tie.Need-returns-in-Accepted
 unfolding refresh_number
-returns-6 c =
+returns-in-Accepted c =
     let put = c.before.before in
     let ws8 = put.before.before.before.before in
     let ws7 = ws8.before.before.before.before in
@@ -196,22 +196,22 @@ returns-6 c =
     let told = took.before in
     let asked = told.before.before in
     let else2 = asked.before.before.before in
-    let a = else2.before.before.before.before.before.before.args in
-    let s : FfState = asked.before.state-of.result in
-    let is : s ≡ state_of a.image.now = asked.before.state-of.ensures in
-    let t : Taken = took.take-ff-vs-dirty.result in
-    let taken : t ≡ take_ff_vs_dirty s = took.take-ff-vs-dirty.ensures in
+    let a = else2.args in
+    let s : FfState = asked.before.state_of-s.result in
+    let is : s ≡ state_of a.image.now = asked.before.state_of-s.ensures in
+    let t : Taken = took.take_ff_vs_dirty-taken.result in
+    let taken : t ≡ take_ff_vs_dirty s = took.take_ff_vs_dirty-taken.ensures in
     let all = all_written s a.key t.bits a.mirror.now _ _ _ _ _ _ _ _
-    ws1.write-section-bytes.ensures
-    ws2.write-section-bytes2.ensures
-    ws3.write-section-bytes3.ensures
-    ws4.write-section-bytes4.ensures
-    ws5.write-section-bytes5.ensures
-    ws6.write-section-bytes6.ensures
-    ws7.write-section-bytes7.ensures
-    ws8.write-section-bytes8.ensures in
-    refresh-done _ _ _ _ (good-image else2) else2.if2.false (ap refresh_number (sym (answer-of asked) ∙ told.enum-told4.given.1)) _
-    (ap₂ (λ (i m : List ℕ). left i m t.bits) put.put-state.ensures all
+    ws1.write_section_bytes.ensures
+    ws2.write_section_bytes-in-Accepted.ensures
+    ws3.write_section_bytes-in-Accepted-2.ensures
+    ws4.write_section_bytes-in-Accepted-3.ensures
+    ws5.write_section_bytes-in-Accepted-4.ensures
+    ws6.write_section_bytes-in-Accepted-5.ensures
+    ws7.write_section_bytes-in-Accepted-6.ensures
+    ws8.write_section_bytes-in-Accepted-7.ensures in
+    refresh-done _ _ _ _ (good-image else2) else2.if-mirror-ne-MIRROR_BYTES.false (ap refresh_number (sym (answer-of asked) ∙ told.in-Accepted.is)) _
+    (ap₂ (λ (i m : List ℕ). left i m t.bits) put.put_state.ensures all
     ∙ ap (λ (r : Taken). left (image_bytes r.state) (written_bytes sections r.bits s a.key a.mirror.now) r.bits) taken
     ∙ ap (λ (x : FfState). left (image_bytes (take_ff_vs_dirty x).state) (written_bytes sections (take_ff_vs_dirty x).bits x a.key a.mirror.now) (take_ff_vs_dirty x).bits) is)
 
@@ -219,33 +219,33 @@ pub refresh_keyed_spec : {M : Type 1} → statement M
 refresh_keyed_spec =
     tie.close
     (tie.spec
-    image-refused-requires
-    same_length
-    returns
-    same-length-2
-    returns-2
-    state-of-requires
-    refresh-answer-requires
-    enum_told
-    enum-told-2
-    enum-told-3
-    enum-told-4
-    take-ff-vs-dirty-requires
-    write-section-bytes-requires
-    write-section-bytes-requires-2
-    write-section-bytes-requires-3
-    write-section-bytes-requires-4
-    write-section-bytes-requires-5
-    write-section-bytes-requires-6
-    write-section-bytes-requires-7
-    write-section-bytes-requires-8
-    put-state-requires
-    same-length-3
-    returns-3
-    same-length-4
-    returns-4
-    same-length-5
-    returns-5
-    same-length-6
-    same-length-7
-    returns-6)
+    image_refused-requires
+    shape_of-image-then-image_refused
+    returns-then-image_refused
+    shape_of-image-then-mirror-ne-MIRROR_BYTES
+    returns-then-mirror-ne-MIRROR_BYTES
+    state_of-s-requires
+    refresh_answer-answer-requires
+    enum_told-1
+    enum_told-in-HasRhw
+    enum_told-in-WrongMask
+    enum_told-in-Accepted
+    take_ff_vs_dirty-taken-requires
+    write_section_bytes-requires
+    write_section_bytes-requires-in-Accepted
+    write_section_bytes-requires-in-Accepted-2
+    write_section_bytes-requires-in-Accepted-3
+    write_section_bytes-requires-in-Accepted-4
+    write_section_bytes-requires-in-Accepted-5
+    write_section_bytes-requires-in-Accepted-6
+    write_section_bytes-requires-in-Accepted-7
+    put_state-requires
+    shape_of-image-in-WrongLength
+    returns-in-WrongLength
+    shape_of-image-in-HasRhw
+    returns-in-HasRhw
+    shape_of-image-in-WrongMask
+    returns-in-WrongMask
+    shape_of-image-in-Accepted
+    shape_of-mirror
+    returns-in-Accepted)
