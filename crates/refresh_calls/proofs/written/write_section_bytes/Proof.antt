@@ -86,11 +86,11 @@ slice_bounds-fill_bytes-count c = search rules
 slice_bounds-fill_bytes-start : tie.Need-slice_bounds-fill_bytes-start
 slice_bounds-fill_bytes-start c = search rules
 
-slice_bounds-fill_bytes-end : tie.Need-slice_bounds-fill_bytes-end
-slice_bounds-fill_bytes-end c =
+slice_bounds-fill_bytes-end-then-has_section : tie.Need-slice_bounds-fill_bytes-end-then-has_section
+slice_bounds-fill_bytes-end-then-has_section c =
     let table = c.before.before in
     let begin = start table in
-    omega (arith, first-is table, rows_is table, begin.pre.0, fits-mirror begin.args.key begin.args.s.tt_active_mask (ready begin).count begin.args.section)
+    omega (arith, first-is table, rows_is table, begin.requires.0, fits-mirror begin.args.key begin.args.s.tt_active_mask (ready begin).count begin.args.section)
 
 fill_bytes-requires : tie.Need-fill_bytes-requires
 fill_bytes-requires c κs =
@@ -104,7 +104,7 @@ fill_bytes-requires c κs =
     let whole : n ≡ 4 * (4 * table.section_rows-rows.result) = omega arith in
     let room = fits-mirror a.key a.s.tt_active_mask byte a.section in (
       front-rows a.section a.s a.key (rows_is table) byte _ long,
-      part_length f n a.mirror.now (omega (arith, first-is table, rows_is table, begin.pre.0, room)) ∙ whole ∙ ap (λ (x : ℕ). 4 * x) (sym (front a.section a.s a.key (rows_is table) byte _ long)),
+      part_length f n a.mirror.now (omega (arith, first-is table, rows_is table, begin.requires.0, room)) ∙ whole ∙ ap (λ (x : ℕ). 4 * x) (sym (front a.section a.s a.key (rows_is table) byte _ long)),
     )
 
 shape_of-mirror : tie.Need-shape_of-mirror
@@ -151,7 +151,7 @@ write_section_bytes_spec =
     slice_bounds-fill_bytes-end
     slice_bounds-fill_bytes-count
     slice_bounds-fill_bytes-start
-    slice_bounds-fill_bytes-end
+    slice_bounds-fill_bytes-end-then-has_section
     fill_bytes-requires
     shape_of-mirror
     returns-then-has_section
