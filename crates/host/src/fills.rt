@@ -8,8 +8,7 @@ ghost use Rattle.pack_calls.specs.Key.{key_of};
 use pack_calls::fill_section;
 use sections::Section;
 
-#[unsafe(no_mangle)]
-pub extern "C" fn ff_fill_wv_section(
+pub fn ff_fill_wv_section(
     image: &[u8],
     has_rhw: u8,
     lighting_enabled: u8,
@@ -38,8 +37,7 @@ pub extern "C" fn ff_fill_wv_section(
     )
 }
 
-#[unsafe(no_mangle)]
-pub extern "C" fn ff_fill_proj_section(
+pub fn ff_fill_proj_section(
     image: &[u8],
     has_rhw: u8,
     lighting_enabled: u8,
@@ -68,8 +66,7 @@ pub extern "C" fn ff_fill_proj_section(
     )
 }
 
-#[unsafe(no_mangle)]
-pub extern "C" fn ff_fill_material_section(
+pub fn ff_fill_material_section(
     image: &[u8],
     has_rhw: u8,
     lighting_enabled: u8,
@@ -98,8 +95,7 @@ pub extern "C" fn ff_fill_material_section(
     )
 }
 
-#[unsafe(no_mangle)]
-pub extern "C" fn ff_fill_lights_section(
+pub fn ff_fill_lights_section(
     image: &[u8],
     has_rhw: u8,
     lighting_enabled: u8,
@@ -128,8 +124,7 @@ pub extern "C" fn ff_fill_lights_section(
     )
 }
 
-#[unsafe(no_mangle)]
-pub extern "C" fn ff_fill_palette_section(
+pub fn ff_fill_palette_section(
     image: &[u8],
     has_rhw: u8,
     lighting_enabled: u8,
@@ -158,8 +153,7 @@ pub extern "C" fn ff_fill_palette_section(
     )
 }
 
-#[unsafe(no_mangle)]
-pub extern "C" fn ff_fill_tt_section(
+pub fn ff_fill_tt_section(
     image: &[u8],
     has_rhw: u8,
     lighting_enabled: u8,
@@ -188,8 +182,7 @@ pub extern "C" fn ff_fill_tt_section(
     )
 }
 
-#[unsafe(no_mangle)]
-pub extern "C" fn ff_fill_fog_section(
+pub fn ff_fill_fog_section(
     image: &[u8],
     has_rhw: u8,
     lighting_enabled: u8,
@@ -218,8 +211,7 @@ pub extern "C" fn ff_fill_fog_section(
     )
 }
 
-#[unsafe(no_mangle)]
-pub extern "C" fn ff_fill_ambient_section(
+pub fn ff_fill_ambient_section(
     image: &[u8],
     has_rhw: u8,
     lighting_enabled: u8,

@@ -4,8 +4,7 @@ ghost use Rattle.calls.specs.Answer.{answer};
 ghost use Rattle.pack_calls.specs.Key.{key_of};
 ghost use Rattle.refresh_calls.specs.Mirror.{left, ff_refresh};
 
-#[unsafe(no_mangle)]
-pub extern "C" fn ff_refresh(
+pub fn ff_refresh(
     image: &mut [u8],
     has_rhw: u8,
     lighting_enabled: u8,

@@ -8,8 +8,7 @@ ghost use Rattle.pack_calls.specs.RowCounts.{ff_section_rows, host_row_count};
 use pack_calls::{section_rows, vs_row_count};
 use sections::Section;
 
-#[unsafe(no_mangle)]
-pub extern "C" fn ff_vs_row_count(
+pub fn ff_vs_row_count(
     image: &[u8],
     has_rhw: u8,
     lighting_enabled: u8,
@@ -37,8 +36,7 @@ pub extern "C" fn ff_vs_row_count(
     )
 }
 
-#[unsafe(no_mangle)]
-pub extern "C" fn ff_wv_section_rows(
+pub fn ff_wv_section_rows(
     image: &[u8],
     has_rhw: u8,
     lighting_enabled: u8,
@@ -67,8 +65,7 @@ pub extern "C" fn ff_wv_section_rows(
     )
 }
 
-#[unsafe(no_mangle)]
-pub extern "C" fn ff_proj_section_rows(
+pub fn ff_proj_section_rows(
     image: &[u8],
     has_rhw: u8,
     lighting_enabled: u8,
@@ -97,8 +94,7 @@ pub extern "C" fn ff_proj_section_rows(
     )
 }
 
-#[unsafe(no_mangle)]
-pub extern "C" fn ff_material_section_rows(
+pub fn ff_material_section_rows(
     image: &[u8],
     has_rhw: u8,
     lighting_enabled: u8,
@@ -127,8 +123,7 @@ pub extern "C" fn ff_material_section_rows(
     )
 }
 
-#[unsafe(no_mangle)]
-pub extern "C" fn ff_lights_section_rows(
+pub fn ff_lights_section_rows(
     image: &[u8],
     has_rhw: u8,
     lighting_enabled: u8,
@@ -157,8 +152,7 @@ pub extern "C" fn ff_lights_section_rows(
     )
 }
 
-#[unsafe(no_mangle)]
-pub extern "C" fn ff_palette_section_rows(
+pub fn ff_palette_section_rows(
     image: &[u8],
     has_rhw: u8,
     lighting_enabled: u8,
@@ -187,8 +181,7 @@ pub extern "C" fn ff_palette_section_rows(
     )
 }
 
-#[unsafe(no_mangle)]
-pub extern "C" fn ff_tt_section_rows(
+pub fn ff_tt_section_rows(
     image: &[u8],
     has_rhw: u8,
     lighting_enabled: u8,
@@ -217,8 +210,7 @@ pub extern "C" fn ff_tt_section_rows(
     )
 }
 
-#[unsafe(no_mangle)]
-pub extern "C" fn ff_fog_section_rows(
+pub fn ff_fog_section_rows(
     image: &[u8],
     has_rhw: u8,
     lighting_enabled: u8,
@@ -247,8 +239,7 @@ pub extern "C" fn ff_fog_section_rows(
     )
 }
 
-#[unsafe(no_mangle)]
-pub extern "C" fn ff_ambient_section_rows(
+pub fn ff_ambient_section_rows(
     image: &[u8],
     has_rhw: u8,
     lighting_enabled: u8,

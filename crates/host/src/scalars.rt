@@ -4,15 +4,13 @@ ghost use Rattle.host.specs.Scalars.{ff_sqrt, ff_cos};
 
 use float32::{bits_of, of_bits};
 
-#[unsafe(no_mangle)]
-pub extern "C" fn ff_sqrt(x: u32) -> u32
+pub fn ff_sqrt(x: u32) -> u32
     ensures { result ≡ ff_sqrt x }
 {
     bits_of(float32::sqrt(of_bits(x)))
 }
 
-#[unsafe(no_mangle)]
-pub extern "C" fn ff_cos(x: u32) -> u32
+pub fn ff_cos(x: u32) -> u32
     ensures { result ≡ ff_cos x }
 {
     bits_of(float32::cos(of_bits(x)))

@@ -5,8 +5,7 @@ ghost use Rattle.host.specs.Version.{version};
 // 0xMMmmpp00: 0.2.0.
 const VERSION: u32 = 0x0002_0000;
 
-#[unsafe(no_mangle)]
-pub extern "C" fn ff_state_version() -> u32
+pub fn ff_state_version() -> u32
     ensures { result ≡ version }
 {
     VERSION

@@ -52,8 +52,7 @@ fn write_numbered(s: FfState, bytes: &mut [u8]) -> u32
 }
 
 // 0, or 9 where the bytes are no image: the state is as it was.
-#[unsafe(no_mangle)]
-pub extern "C" fn ff_state_read_image(s: &mut FfState, bytes: &[u8]) -> u32
+pub fn ff_state_read_image(s: &mut FfState, bytes: &[u8]) -> u32
     ensures { (result, s.new) ≡ ff_state_read_image s.old bytes.now }
 {
     let c = read_numbered(*s, bytes);
@@ -62,8 +61,7 @@ pub extern "C" fn ff_state_read_image(s: &mut FfState, bytes: &[u8]) -> u32
 }
 
 // 0, or 4 where the bytes are not as many as an image's: they are as they were.
-#[unsafe(no_mangle)]
-pub extern "C" fn ff_state_write_image(s: &FfState, bytes: &mut [u8]) -> u32
+pub fn ff_state_write_image(s: &FfState, bytes: &mut [u8]) -> u32
     ensures { (result, bytes.new) ≡ ff_state_write_image s.now bytes.old }
 {
     write_numbered(*s, bytes)

@@ -4,8 +4,7 @@ ghost use Rattle.ff_state.specs.State.{fresh_state};
 
 use ff_state::FfState;
 
-#[unsafe(no_mangle)]
-pub extern "C" fn ff_state_fresh(s: &mut FfState)
+pub fn ff_state_fresh(s: &mut FfState)
     ensures { s.new ≡ fresh_state }
 {
     *s = FfState::new();

@@ -5,8 +5,7 @@ ghost use Rattle.lent_state.specs.Calls.{ff_state_set_fog_start, ff_state_set_fo
 use ff_state::FfState;
 
 #[tactic(auto, unfolding(ff_state::specs::RenderStates::set_fog_start, ff_state::specs::Dirty::dirtied))]
-#[unsafe(no_mangle)]
-pub extern "C" fn ff_state_set_fog_start(s: &mut FfState, start: f32) -> u32
+pub fn ff_state_set_fog_start(s: &mut FfState, start: f32) -> u32
     ensures { (result, s.new) ≡ ff_state_set_fog_start s.old start }
 {
     s.render_states.fog_start = start;
@@ -15,8 +14,7 @@ pub extern "C" fn ff_state_set_fog_start(s: &mut FfState, start: f32) -> u32
 }
 
 #[tactic(auto, unfolding(ff_state::specs::RenderStates::set_fog_end, ff_state::specs::Dirty::dirtied))]
-#[unsafe(no_mangle)]
-pub extern "C" fn ff_state_set_fog_end(s: &mut FfState, end: f32) -> u32
+pub fn ff_state_set_fog_end(s: &mut FfState, end: f32) -> u32
     ensures { (result, s.new) ≡ ff_state_set_fog_end s.old end }
 {
     s.render_states.fog_end = end;
@@ -25,8 +23,7 @@ pub extern "C" fn ff_state_set_fog_end(s: &mut FfState, end: f32) -> u32
 }
 
 #[tactic(auto, unfolding(ff_state::specs::RenderStates::set_fog_density, ff_state::specs::Dirty::dirtied))]
-#[unsafe(no_mangle)]
-pub extern "C" fn ff_state_set_fog_density(s: &mut FfState, density: f32) -> u32
+pub fn ff_state_set_fog_density(s: &mut FfState, density: f32) -> u32
     ensures { (result, s.new) ≡ ff_state_set_fog_density s.old density }
 {
     s.render_states.fog_density = density;
@@ -35,8 +32,7 @@ pub extern "C" fn ff_state_set_fog_density(s: &mut FfState, density: f32) -> u32
 }
 
 #[tactic(auto, unfolding(ff_state::specs::RenderStates::set_ambient, ff_state::specs::Dirty::dirtied))]
-#[unsafe(no_mangle)]
-pub extern "C" fn ff_state_set_ambient(s: &mut FfState, color: u32) -> u32
+pub fn ff_state_set_ambient(s: &mut FfState, color: u32) -> u32
     ensures { (result, s.new) ≡ ff_state_set_ambient s.old color }
 {
     s.render_states.ambient = color;
@@ -45,8 +41,7 @@ pub extern "C" fn ff_state_set_ambient(s: &mut FfState, color: u32) -> u32
 }
 
 #[tactic(auto, unfolding(ff_state::specs::RenderStates::set_texture_mask, ff_state::specs::Dirty::dirtied))]
-#[unsafe(no_mangle)]
-pub extern "C" fn ff_state_set_texture_mask(s: &mut FfState, mask: u8) -> u32
+pub fn ff_state_set_texture_mask(s: &mut FfState, mask: u8) -> u32
     ensures { (result, s.new) ≡ ff_state_set_texture_mask s.old mask }
 {
     s.tt_active_mask = mask;

@@ -82,8 +82,7 @@ fn matrix_at(s: &mut FfState, state: u32) -> D3DMATRIX
 }
 
 // 0, or 1 for a number that names no transform.
-#[unsafe(no_mangle)]
-pub extern "C" fn ff_state_set_transform(s: &mut FfState, state: u32, matrix: &D3DMATRIX) -> u32
+pub fn ff_state_set_transform(s: &mut FfState, state: u32, matrix: &D3DMATRIX) -> u32
     ensures { (result, s.new) ≡ ff_state_set_transform s.old state matrix.now }
 {
     set_transform(s, state, *matrix)
@@ -91,8 +90,7 @@ pub extern "C" fn ff_state_set_transform(s: &mut FfState, state: u32, matrix: &D
 
 // 0, or 1 for a number that names no transform. Stores argument x slot.
 #[tactic(auto, unfolding(ff_state::specs::Transforms::set_transform, ff_state::specs::Transforms::multiply_transform, ff_state::specs::Transforms::change_at))]
-#[unsafe(no_mangle)]
-pub extern "C" fn ff_state_multiply_transform(
+pub fn ff_state_multiply_transform(
     s: &mut FfState,
     state: u32,
     matrix: &D3DMATRIX,

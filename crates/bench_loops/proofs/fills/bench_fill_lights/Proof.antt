@@ -1,21 +1,22 @@
 -- `bench_loops::fills::bench_fill_lights` is safe and ends: the floats keep their length. The measure is the number of turns left.
 -- Assumes nothing.
+use borrow.Author.Rules.{rules}
 use Rattle.std.proofs.Common.{◌≡◌, ◌-◌, ◌≤◌, length, rules}
 use Rattle.bench_loops.proofs.fills.bench_fill_lights.Statement.{statement}
 use Rattle.bench_loops.proofs.fills.bench_fill_lights.Tie as tie
 
-abbrev invariant-loop : tie.invariant-loop
-invariant-loop n x dst₀ s₀ key v₀ packed₀ i₀ dst s v packed i = (i ≤ n) × (length dst ≡ 3072) × (length dst ≡ length dst₀)
+abbrev invariant-loop-i : tie.invariant-loop-i
+invariant-loop-i n x dst₀ s₀ key v₀ packed₀ i₀ dst s v packed i = (i ≤ n) × (length dst ≡ 3072) × (length dst ≡ length dst₀)
 
-abbrev decreases-loop : tie.decreases-loop
-decreases-loop n x dst₀ s₀ key v₀ packed₀ i₀ dst s v packed i = n - i
+abbrev decreases-loop-i : tie.decreases-loop-i
+decreases-loop-i n x dst₀ s₀ key v₀ packed₀ i₀ dst s v packed i = n - i
 
 pub bench_fill_lights_spec : {M : Type 1} → statement M
 bench_fill_lights_spec =
     tie.close
     (tie.spec
-    invariant-loop
-    decreases-loop
+    invariant-loop-i
+    decreases-loop-i
     (λ c. search rules)
     (λ c κs. search rules)
     (λ c κs. search rules)
