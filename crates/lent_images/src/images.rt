@@ -14,6 +14,7 @@ pub struct Numbered {
     pub state: FfState,
 }
 
+#[tactic(auto, unfolding(image::specs::Read::read_number))]
 fn read_number(a: ReadAnswer) -> u32
     ensures { result ≡ read_number a }
 {
@@ -23,6 +24,7 @@ fn read_number(a: ReadAnswer) -> u32
     }
 }
 
+#[tactic(auto, unfolding(image::specs::Write::write_number))]
 fn write_number(a: WriteAnswer) -> u32
     ensures { result ≡ write_number a }
 {

@@ -1,4 +1,6 @@
 // The lights of a state lent by reference, under the names that C links.
+#![tactic(auto)]
+
 mod lights;
 mod slots;
 mod table;

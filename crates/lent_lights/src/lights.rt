@@ -9,6 +9,7 @@ use ff_lights::vs_source_light_inputs;
 use ff_state::FfState;
 
 // 0, or 3 where 56 other lights from index 8 on are stored.
+#[tactic(auto, unfolding(ff_state::specs::Lights::set_light_at, ff_state::specs::Lights::change_entry, ff_state::specs::Lights::light_number, ff_state::specs::Lights::flag))]
 #[unsafe(no_mangle)]
 pub extern "C" fn ff_state_set_light_at(s: &mut FfState, index: u32, light: &D3DLIGHT9) -> u32
     ensures { (result, s.new) ≡ ff_state_set_light_at s.old index light.now }
@@ -22,6 +23,7 @@ pub extern "C" fn ff_state_set_light_at(s: &mut FfState, index: u32, light: &D3D
 }
 
 // 0, or 3 as above. Any number but 0 enables.
+#[tactic(auto, unfolding(ff_state::specs::Lights::set_light_enabled_at, ff_state::specs::Lights::light_number))]
 #[unsafe(no_mangle)]
 pub extern "C" fn ff_state_set_light_enabled_at(s: &mut FfState, index: u32, enabled: u32) -> u32
     ensures { (result, s.new) ≡ ff_state_set_light_enabled_at s.old index enabled }

@@ -32,6 +32,7 @@ pub fn masks_with(m: Masks, i: u32, kind: u32) -> Masks
 }
 
 // A light stored in slot i.
+#[tactic(auto, unfolding(ff_state::specs::Dirty::dirtied, ff_state::specs::Slots::set_slot))]
 pub fn store_slot(s: &mut FfState, i: u32, light: D3DLIGHT9)
     requires { i < 8 }
     ensures { s.new ≡ dirtied (set_slot s.old i light) 8 }
@@ -55,6 +56,7 @@ pub fn store_slot(s: &mut FfState, i: u32, light: D3DLIGHT9)
 }
 
 // The default light stored in slot i where none is. The bit is marked in either case.
+#[tactic(auto, unfolding(ff_state::specs::Dirty::dirtied, ff_state::specs::Slots::define_slot))]
 pub fn define_slot(s: &mut FfState, i: u32)
     requires { i < 8 }
     ensures { s.new ≡ dirtied (define_slot s.old i) 8 }
@@ -67,6 +69,7 @@ pub fn define_slot(s: &mut FfState, i: u32)
 }
 
 // Slot i enabled, or, by the number 0, disabled.
+#[tactic(auto, unfolding(ff_state::specs::Dirty::dirtied, ff_state::specs::Slots::enable_slot))]
 pub fn enable_slot(s: &mut FfState, i: u32, on: u32)
     requires { i < 8 }
     ensures { s.new ≡ dirtied (enable_slot s.old i (not (eqb on 0))) 8 }

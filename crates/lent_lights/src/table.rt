@@ -88,7 +88,8 @@ pub fn change_table(s: &mut FfState, index: u32, light: D3DLIGHT9, how: u32) -> 
     ensures { (result, s.new) ≡ ff_state_change_table s.old index light how }
 {
     let t = changed_table(s.overflow_lights, s.overflow_count, index, light, how);
-    s.overflow_lights = t.entries;
+    let entries = t.entries;
+    s.overflow_lights = entries;
     s.overflow_count = t.count;
     s.ff_vs_dirty = s.ff_vs_dirty | t.bits;
     t.number

@@ -5,6 +5,7 @@ ghost use Rattle.lent_state.specs.Calls.{ff_state_mark_ff_vs_dirty, ff_state_tak
 use ff_state::FfState;
 
 // 0, or 7 for a bit that is no section's.
+#[tactic(auto, unfolding(ff_state::specs::Dirty::mark_ff_vs_dirty, ff_state::specs::Dirty::mark_number, ff_state::specs::Dirty::dirtied))]
 #[unsafe(no_mangle)]
 pub extern "C" fn ff_state_mark_ff_vs_dirty(s: &mut FfState, bits: u32) -> u32
     ensures { (result, s.new) ≡ ff_state_mark_ff_vs_dirty s.old bits }
@@ -17,6 +18,7 @@ pub extern "C" fn ff_state_mark_ff_vs_dirty(s: &mut FfState, bits: u32) -> u32
 }
 
 // 0; the dirty bits go to `out`, and are none afterwards.
+#[tactic(auto, unfolding(ff_state::specs::Dirty::take_ff_vs_dirty))]
 #[unsafe(no_mangle)]
 pub extern "C" fn ff_state_take_ff_vs_dirty(s: &mut FfState, out: &mut u32) -> u32
     ensures { (result, out.new, s.new) ≡ ff_state_take_ff_vs_dirty s.old }

@@ -6,6 +6,7 @@ use d3d9_types::D3DMATERIAL9;
 use ff_state::FfState;
 
 // 0.
+#[tactic(auto, unfolding(ff_state::specs::Material::set_material, ff_state::specs::Dirty::dirtied))]
 #[unsafe(no_mangle)]
 pub extern "C" fn ff_state_set_material(s: &mut FfState, material: &D3DMATERIAL9) -> u32
     ensures { (result, s.new) ≡ ff_state_set_material s.old material.now }

@@ -4,6 +4,7 @@ ghost use Rattle.lent_state.specs.Calls.{ff_state_set_fog_start, ff_state_set_fo
 
 use ff_state::FfState;
 
+#[tactic(auto, unfolding(ff_state::specs::RenderStates::set_fog_start, ff_state::specs::Dirty::dirtied))]
 #[unsafe(no_mangle)]
 pub extern "C" fn ff_state_set_fog_start(s: &mut FfState, start: f32) -> u32
     ensures { (result, s.new) ≡ ff_state_set_fog_start s.old start }
@@ -13,6 +14,7 @@ pub extern "C" fn ff_state_set_fog_start(s: &mut FfState, start: f32) -> u32
     0
 }
 
+#[tactic(auto, unfolding(ff_state::specs::RenderStates::set_fog_end, ff_state::specs::Dirty::dirtied))]
 #[unsafe(no_mangle)]
 pub extern "C" fn ff_state_set_fog_end(s: &mut FfState, end: f32) -> u32
     ensures { (result, s.new) ≡ ff_state_set_fog_end s.old end }
@@ -22,6 +24,7 @@ pub extern "C" fn ff_state_set_fog_end(s: &mut FfState, end: f32) -> u32
     0
 }
 
+#[tactic(auto, unfolding(ff_state::specs::RenderStates::set_fog_density, ff_state::specs::Dirty::dirtied))]
 #[unsafe(no_mangle)]
 pub extern "C" fn ff_state_set_fog_density(s: &mut FfState, density: f32) -> u32
     ensures { (result, s.new) ≡ ff_state_set_fog_density s.old density }
@@ -31,6 +34,7 @@ pub extern "C" fn ff_state_set_fog_density(s: &mut FfState, density: f32) -> u32
     0
 }
 
+#[tactic(auto, unfolding(ff_state::specs::RenderStates::set_ambient, ff_state::specs::Dirty::dirtied))]
 #[unsafe(no_mangle)]
 pub extern "C" fn ff_state_set_ambient(s: &mut FfState, color: u32) -> u32
     ensures { (result, s.new) ≡ ff_state_set_ambient s.old color }
@@ -40,6 +44,7 @@ pub extern "C" fn ff_state_set_ambient(s: &mut FfState, color: u32) -> u32
     0
 }
 
+#[tactic(auto, unfolding(ff_state::specs::RenderStates::set_texture_mask, ff_state::specs::Dirty::dirtied))]
 #[unsafe(no_mangle)]
 pub extern "C" fn ff_state_set_texture_mask(s: &mut FfState, mask: u8) -> u32
     ensures { (result, s.new) ≡ ff_state_set_texture_mask s.old mask }

@@ -11,6 +11,7 @@ use d3d9_types::D3DMATRIX;
 use ff_state::FfState;
 use matrix::mat_mul;
 
+#[tactic(auto, unfolding(ff_state::specs::Dirty::dirtied, ff_state::specs::Transforms::placed, ff_state::specs::Transforms::place_sections))]
 fn set_texture(s: &mut FfState, i: usize, m: D3DMATRIX)
     requires { i < 8 }
     ensures { s.new ≡ dirtied (placed s.old (Texture i) m) (place_bits (Texture i)) }
@@ -20,6 +21,7 @@ fn set_texture(s: &mut FfState, i: usize, m: D3DMATRIX)
 }
 
 // A world matrix. The greater index and the bits are chosen by number: a branch would split the stores.
+#[tactic(auto, unfolding(ff_state::specs::Dirty::dirtied, ff_state::specs::Transforms::placed, ff_state::specs::Transforms::place_sections))]
 fn set_world(s: &mut FfState, i: usize, m: D3DMATRIX)
     requires { i < 256 }
     ensures { s.new ≡ dirtied (placed s.old (Palette i) m) (place_bits (Palette i)) }
@@ -31,6 +33,7 @@ fn set_world(s: &mut FfState, i: usize, m: D3DMATRIX)
     s.ff_vs_dirty = s.ff_vs_dirty | 16 + (i == 0) as u8;
 }
 
+#[tactic(auto, unfolding(ff_state::specs::Dirty::dirtied, ff_state::specs::Transforms::set_transform, ff_state::specs::Transforms::change_at, ff_state::specs::Transforms::slot_of, ff_state::specs::Transforms::placed, ff_state::specs::Transforms::place_sections, ff_state::specs::Transforms::transform_number))]
 fn set_transform(s: &mut FfState, state: u32, m: D3DMATRIX) -> u32
     ensures { (result, s.new) ≡ ff_state_set_transform s.old state m }
 {
@@ -62,6 +65,7 @@ fn set_transform(s: &mut FfState, state: u32, m: D3DMATRIX) -> u32
 }
 
 // The matrix that a number names; for a number that names none, some matrix.
+#[tactic(auto, unfolding(ff_state::specs::Transforms::slot_of, ff_state::specs::Transforms::place_matrix))]
 fn matrix_at(s: &mut FfState, state: u32) -> D3DMATRIX
     ensures { ((p : Place) → slot_of state ≡ At p → result ≡ place_matrix s.old p) × (s.new ≡ s.old) }
 {
@@ -86,6 +90,7 @@ pub extern "C" fn ff_state_set_transform(s: &mut FfState, state: u32, matrix: &D
 }
 
 // 0, or 1 for a number that names no transform. Stores argument x slot.
+#[tactic(auto, unfolding(ff_state::specs::Transforms::set_transform, ff_state::specs::Transforms::multiply_transform, ff_state::specs::Transforms::change_at))]
 #[unsafe(no_mangle)]
 pub extern "C" fn ff_state_multiply_transform(
     s: &mut FfState,
