@@ -1,4 +1,6 @@
 // Refresh over a state that is lent by reference: the dirty bits are taken in place, and only the parts that a dirty section is made from are copied out.
+#![tactic(auto)]
+
 mod dirty;
 mod host;
 mod lights;

@@ -22,7 +22,7 @@ use Rattle.refresh.specs.Written.{written}
 use Rattle.refresh.specs.declared.answer.RefreshAnswer.{RefreshAnswer}
 use Rattle.refresh.specs.declared.answer.RefreshAnswer.TheVariants.{Accepted, WrongLength, HasRhw, WrongMask}
 use Rattle.refresh.proofs.Answers.{number_is, accepted_fits}
-use Rattle.refresh_parts.specs.Mirror.{LentRefreshed, left, told, lent_refresh}
+use Rattle.refresh_parts.specs.Mirror.{left, told, lent_refresh}
 use Rattle.refresh_parts.specs.Parts.{first_number, mask_number, part_lights}
 
 -- by the length, HAS_RHW, a mask of 0, and one that is that of the lights
@@ -82,10 +82,6 @@ accepted_is s k m out e = rw (zero_accepted (refresh_answer s k (length m)) e)
 pub accepted_with : (s : FfState) (k : FfVsKey) (m : List Float) (out : ℕ) (m' : List Float) (bits : ℕ) → refresh_number (refresh_answer s k (length m)) ≡ 0
     → m' ≡ written sections (take_ff_vs_dirty s).bits s k m → bits ≡ (take_ff_vs_dirty s).bits → left 0 (take_ff_vs_dirty s).state m' bits ≡ lent_refresh s k m out
 accepted_with s k m out m' bits e is b = ap₂ (λ (x : List Float) (n : ℕ). left 0 (take_ff_vs_dirty s).state x n) is b ∙ accepted_is s k m out e
-
--- an outcome is its four parts
-pub all_left : (o : LentRefreshed) {n : ℕ} {m : List Float} → n ≡ o.number → m ≡ o.floats → left n o.state m o.bits ≡ o
-all_left o e₁ e₂ = ap₂ (λ (n : ℕ) (m : List Float). left n o.state m o.bits) e₁ e₂
 
 pub refused_is : (s : FfState) (k : FfVsKey) (m : List Float) (out r : ℕ) → r ≡ refresh_number (refresh_answer s k (length m)) → eqb r 0 ≡ false
     → left r s m out ≡ lent_refresh s k m out

@@ -1,5 +1,7 @@
 // What a refresh answers and writes, over the parts of a state, which are handed over by value. Only crates of this
 // repository call these.
+#![tactic(auto)]
+
 mod lights;
 mod number;
 mod palette;
