@@ -7,8 +7,7 @@ use crate::mirror::refresh;
 use ff_state::FfState;
 use pack_calls::key_of;
 
-#[unsafe(no_mangle)]
-pub extern "C" fn ff_state_refresh(
+pub fn ff_state_refresh(
     s: &mut FfState,
     has_rhw: u8,
     lighting_enabled: u8,

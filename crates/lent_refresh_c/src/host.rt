@@ -21,5 +21,17 @@ pub extern "C" fn ff_state_refresh(
 ) -> u32
     ensures { left result s.new mirror.new out.new ≡ lent_refresh s.old (key_of has_rhw lighting_enabled specular_enable vertex_blend_indexed preview light_active_mask fog_mode vertex_blend_count) mirror.old out.old }
 {
-    lent_refresh::ff_state_refresh(s, has_rhw, lighting_enabled, specular_enable, vertex_blend_indexed, preview, light_active_mask, fog_mode, vertex_blend_count, mirror, out)
+    lent_refresh::ff_state_refresh(
+        s,
+        has_rhw,
+        lighting_enabled,
+        specular_enable,
+        vertex_blend_indexed,
+        preview,
+        light_active_mask,
+        fog_mode,
+        vertex_blend_count,
+        mirror,
+        out,
+    )
 }
