@@ -1,6 +1,5 @@
 -- Fog, the ambient colour and the texture mask: each setter stores one field and marks its section. Assumes nothing.
 use Prim.Native.Nat.{ℕ, ◌≤◌, ◌<◌}
-use native.Mathlib.Omega.{arith}
 use mathlib.Core.Path.{◌≡◌, refl, ap}
 use lib.Dec.{leb, leb→le}
 use lib.Ieee.{Float}
@@ -14,7 +13,7 @@ use Rattle.sections.specs.Sections.{bit_of, all_bits}
 use Rattle.sections.proofs.Every.{each}
 use Rattle.sections.specs.declared.sections.Section.{Section}
 use Rattle.sections.specs.declared.sections.Section.TheVariants as Sections
-use Rattle.ff_state.specs.State.{with_render_states, with_tt_active_mask}
+use Rattle.ff_state.specs.State.{with_render_states}
 use Rattle.ff_state.specs.Dirty.{dirtied}
 use Rattle.ff_state.specs.RenderStates.{set_fog_start, set_fog_end, set_fog_density, set_ambient, set_texture_mask}
 use Rattle.ff_state.specs.Valid.{Valid}

@@ -1,4 +1,6 @@
 // A call over a state image: 9 for what is not one, then the call's own refusals, and the image left behind.
+#![tactic(auto)]
+
 mod bits;
 mod images;
 mod materials;

@@ -1,4 +1,6 @@
 // Little-endian numbers, floats and Direct3D's records in byte slices.
+#![tactic(auto)]
+
 mod color;
 mod float;
 mod light;

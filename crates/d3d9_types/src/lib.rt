@@ -1,4 +1,6 @@
 // Direct3D 9's records of f32 fields, its numbers, and the defaults that document 01 fixes.
+#![tactic(auto)]
+
 mod color;
 mod light;
 mod material;

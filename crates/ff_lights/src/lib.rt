@@ -1,5 +1,7 @@
 // The state's calls on lights, by value: eight slots with their masks, the table from index 8 on, and
 // the active lights. A refused call returns the state as it was.
+#![tactic(auto)]
+
 mod active;
 mod lights;
 mod slots;

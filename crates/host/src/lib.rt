@@ -1,4 +1,6 @@
 // The C interface: each call over byte slices, thin over the crates below.
+#![tactic(auto)]
+
 pub mod bits;
 pub mod fills;
 pub mod images;

@@ -1,4 +1,6 @@
 // A state as bytes, in document 01's form.
+#![tactic(auto)]
+
 mod read;
 mod write;
 

@@ -1,4 +1,6 @@
 // Every reason to refuse bytes as a state image. Document 01, 'State image'.
+#![tactic(auto)]
+
 mod reasons;
 mod tests;
 

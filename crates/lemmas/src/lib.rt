@@ -1,1 +1,3 @@
+#![tactic(auto)]
+
 // No code: general lemmas that the proofs of several crates cite.

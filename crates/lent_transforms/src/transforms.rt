@@ -90,11 +90,7 @@ pub fn ff_state_set_transform(s: &mut FfState, state: u32, matrix: &D3DMATRIX) -
 
 // 0, or 1 for a number that names no transform. Stores argument x slot.
 #[tactic(auto, unfolding(ff_state::specs::Transforms::set_transform, ff_state::specs::Transforms::multiply_transform, ff_state::specs::Transforms::change_at))]
-pub fn ff_state_multiply_transform(
-    s: &mut FfState,
-    state: u32,
-    matrix: &D3DMATRIX,
-) -> u32
+pub fn ff_state_multiply_transform(s: &mut FfState, state: u32, matrix: &D3DMATRIX) -> u32
     ensures { (result, s.new) ≡ ff_state_multiply_transform s.old state matrix.now }
 {
     let slot = matrix_at(s, state);

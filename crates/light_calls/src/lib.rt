@@ -1,4 +1,6 @@
 // Calls on lights over a state image.
+#![tactic(auto)]
+
 mod lights;
 
 pub use lights::{

@@ -1,5 +1,7 @@
 // The table of lights from index 8 on and lists of active lights: what the state's calls on lights are
 // made of. Only crates of this repository call these.
+#![tactic(auto)]
+
 mod active;
 mod entry;
 mod kinds;

@@ -1,5 +1,7 @@
 // Direct3D 9's 4 x 4 matrices: product, transpose, inverse, and points and directions in view space.
 // No step is fused and no sum is reordered.
+#![tactic(auto)]
+
 mod answer;
 mod inversion;
 mod product;

@@ -1,4 +1,6 @@
 // Packing: the rows of a section of the state under a key, into a lent slice of floats.
+#![tactic(auto)]
+
 mod answer;
 mod fill;
 mod lights;

@@ -1,4 +1,6 @@
 // Refresh: the dirty sections of a state, packed into a mirror of the constant buffer.
+#![tactic(auto)]
+
 mod answer;
 mod mirror;
 mod written;

@@ -1,4 +1,6 @@
 // Refresh over a state image: the dirty sections of a mirror's bytes.
+#![tactic(auto)]
+
 mod mirror;
 mod written;
 

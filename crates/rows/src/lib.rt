@@ -1,5 +1,7 @@
 // Packed rows of matrices, of a material, of fog and of the ambient colour, written into a lent slice of floats. Only crates of this
 // repository call these.
+#![tactic(auto)]
+
 mod ambient;
 mod fog;
 mod material;

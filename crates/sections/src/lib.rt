@@ -1,4 +1,6 @@
 // The sections of the constant buffer: their bits, where each begins, and how many rows it has under a shader key.
+#![tactic(auto)]
+
 mod counts;
 mod key;
 mod row_count;

@@ -26,7 +26,6 @@ use Rattle.packing.specs.Inputs.{Inputs, mask_accepted}
 use Rattle.d3d9_model.specs.State.{AbstractState, fresh_abstract}
 use Rattle.d3d9_model.specs.Operations.{Operation, set_transform, set_texture_mask, mark, known, abstract_refusal, abstract_change, abstract_step}
 use Rattle.d3d9_model.specs.Marks.{marks_section}
-use Rattle.ff_state.specs.Operate as Operate
 use Rattle.packing_agreement.specs.Abstract.{abstract_inputs}
 use Rattle.packing_agreement.proofs.Agreement.{abstract_length}
 use Rattle.trace.specs.Calls.{the_mirror, slice, Call, own, refresh, overwrite}

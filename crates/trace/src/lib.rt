@@ -1,1 +1,3 @@
+#![tactic(auto)]
+
 // No code: a claim over every list of calls.

@@ -1,4 +1,6 @@
 // Calls on transforms over a state image.
+#![tactic(auto)]
+
 mod transforms;
 
 pub use transforms::{

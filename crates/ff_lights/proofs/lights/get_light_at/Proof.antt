@@ -1,8 +1,8 @@
 -- `ff_state::state::FfState::get_light_at` meets its contract: below 8 the slot answers, if its bit says that it is defined, and from 8 on the entry that the search finds.
 -- Assumes nothing.
-use mathlib.Core.Path.{◌≡◌, ap, sym, ◌∙◌}
+use mathlib.Core.Path.{◌≡◌, ap}
 use native.Mathlib.Omega.{arith}
-use lib.ListN.{length, length-map}
+use lib.ListN.{length}
 use borrow.Author.Rules.{rules}
 use borrow.Author.Tests.{lt-ltb, le-ltb}
 use Rattle.d3d9_types.specs.Light.{default_light}

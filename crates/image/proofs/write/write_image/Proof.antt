@@ -1,11 +1,11 @@
 -- `image::write::write_image` meets its contract. Another length leaves by the first return. Else each field is put at its place, and the fields tile the image (`placed_all`).
 -- Assumes nothing.
 use native.Mathlib.Omega.{arith}
-use mathlib.Core.Path.{◌≡◌, sym, ap, ◌∙◌}
-use lib.ListN.{length, length-map}
+use mathlib.Core.Path.{◌≡◌, ap}
+use lib.ListN.{length}
 use borrow.Author.Tests.{eq-eqb, ne_eqb}
 use Rattle.image_reasons.specs.Length.{image_length}
-use Rattle.image.specs.Format.{image_table, image_bytes, Sized}
+use Rattle.image.specs.Format.{image_table, image_bytes}
 use Rattle.image.specs.Write.{write_outcome, write_image}
 use Rattle.image.specs.declared.write.WriteAnswer.TheVariants.{Written}
 use Rattle.image.proofs.Table.{placed_all}

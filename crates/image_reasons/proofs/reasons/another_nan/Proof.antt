@@ -1,6 +1,5 @@
 -- `image_reasons::reasons::another_nan` meets its contract. The floats of the matrices, the material, the lights, the entries and the fog are tested in turn.
 -- Assumes nothing.
-use borrow.Author.Tests.{not-true, not-false}
 use borrow.Author.Rules.{rules}
 use Rattle.image_reasons.specs.Reasons.{another_nan}
 use Rattle.image_reasons.proofs.reasons.another_nan.Statement.{statement}

@@ -2,7 +2,6 @@
 -- Assumes nothing.
 use Prim.Native.Nat.{◌-◌}
 use native.Mathlib.Omega.{arith}
-use borrow.Author.Tests.{not-true, not-false}
 use Rattle.image_reasons.specs.Tests.{lights_nan_free, plain_light}
 use Rattle.image_reasons.proofs.Every.{Passed, begins, goes_on, ends, stops}
 use Rattle.image_reasons.proofs.tests.lights_nan_free.Statement.{statement}

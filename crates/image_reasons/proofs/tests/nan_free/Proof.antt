@@ -2,8 +2,6 @@
 -- Assumes nothing.
 use Prim.Native.Nat.{◌-◌}
 use native.Mathlib.Omega.{arith}
-use mathlib.Core.Logic.{⊎_elim}
-use borrow.Author.Tests.{not-true, not-false}
 use Rattle.image_reasons.specs.Tests.{nan_free, plain_at}
 use Rattle.image_reasons.proofs.Every.{Looked, looks, looked-on, looked-off, looked-all}
 use Rattle.image_reasons.proofs.tests.nan_free.Statement.{statement}
@@ -42,7 +40,7 @@ loop-i-preserved c =
     let l = c.before.before.before.before.loop-i in
     let t = c.before.before.before.loop-i-test.true in
     elim c.if-not-plain_word.branch [
-        then-not-plain_word w ↦ looked-off _ _ l.i t _ _ l.invariant (rw (← c.before.before.u32_at.ensures, ← c.before.plain_word.ensures) w.if-not-plain_word.true) w.all-is
+      | then-not-plain_word w ↦ looked-off _ _ l.i t _ _ l.invariant (rw (← c.before.before.u32_at.ensures, ← c.before.plain_word.ensures) w.if-not-plain_word.true) w.all-is
       | else-not-plain_word w ↦ looked-on _ _ l.i t _ _ l.invariant (rw (← c.before.before.u32_at.ensures, ← c.before.plain_word.ensures) w.if-not-plain_word.false) w.all-is
     ]
 

@@ -2,7 +2,6 @@
 -- Assumes nothing.
 use Prim.Native.Nat.{◌-◌}
 use native.Mathlib.Omega.{arith}
-use mathlib.Core.Logic.{⊎_elim}
 use borrow.Author.Tests.{eq-eqb, ne_eqb}
 use Rattle.image_reasons.specs.Tests.{zeros, zero_byte}
 use Rattle.image_reasons.proofs.Every.{Looked, looks, looked-on, looked-off, looked-all}
@@ -36,7 +35,7 @@ loop-i-preserved c =
     let l = c.before.before.before.loop-i in
     let t = c.before.before.loop-i-test.true in
     elim c.if-s-at-ne0.branch [
-        then-s-at-ne0 w ↦ looked-off _ _ l.i t _ _ l.invariant (ne_eqb _ _ w.if-s-at-ne0.true) w.all-is
+      | then-s-at-ne0 w ↦ looked-off _ _ l.i t _ _ l.invariant (ne_eqb _ _ w.if-s-at-ne0.true) w.all-is
       | else-s-at-ne0 w ↦ looked-on _ _ l.i t _ _ l.invariant (eq-eqb _ _ w.if-s-at-ne0.false) w.all-is
     ]
 

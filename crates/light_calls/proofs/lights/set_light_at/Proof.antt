@@ -1,7 +1,6 @@
 -- `light_calls::lights::set_light_at` meets its contract. The room decides 3 before the length decides 4, and past them the image of the changed state is written.
 -- Assumes nothing.
 use mathlib.Core.Path.{sym, ap, ap₂, ◌∙◌}
-use borrow.Author.Tests.{not-true, not-false}
 use Rattle.codec.specs.Light.{light_at}
 use Rattle.ff_state.specs.Lights.{has_room, set_light_at}
 use Rattle.ff_state.specs.declared.lights.LightChanged.{LightChanged}

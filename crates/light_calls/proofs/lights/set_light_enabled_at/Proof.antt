@@ -1,7 +1,6 @@
 -- `light_calls::lights::set_light_enabled_at` meets its contract. The room decides 3, and past it the image of the changed state is written.
 -- Assumes nothing.
 use mathlib.Core.Path.{refl, sym, ap, ◌∙◌}
-use borrow.Author.Tests.{not-true, not-false}
 use mathlib.Core.Bool.{not}
 use lib.Dec.{eqb}
 use Rattle.ff_state.specs.Lights.{has_room, set_light_enabled_at}

@@ -2,9 +2,9 @@
 -- Assumes nothing.
 use Prim.Native.Nat.{◌-◌, ◌≤◌, ◌<◌}
 use native.Mathlib.Omega.{arith}
-use mathlib.Core.Path.{◌≡◌, sym, ◌∙◌}
+use mathlib.Core.Path.{◌≡◌}
 use lib.Dec.{eqb}
-use lib.ListN.{length, get_or, take, drop, length-map, length-drop, length-take, drop_of_length-le}
+use lib.ListN.{length, get_or, take, drop, length-drop, length-take, drop_of_length-le}
 use lib.Seq.{length-take-le}
 use lib.Pow.{pow_mono}
 use native.Mathlib.Nat.{lt_of_lt_of_le}

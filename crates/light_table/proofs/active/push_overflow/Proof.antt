@@ -3,7 +3,6 @@
 use Prim.Native.Nat.{◌-◌, ◌≤◌, ◌<◌}
 use native.Mathlib.Omega.{arith}
 use mathlib.Core.Path.{◌≡◌, refl, ◌∙◌}
-use mathlib.Core.Logic.{⊎_elim}
 use lib.ListN.{length, take, drop, get_or, drop_of_length-le}
 use Rattle.light_table.specs.declared.entry.OverflowLight.{OverflowLight}
 use Rattle.light_table.proofs.Turn.{stored, full, off}
@@ -66,7 +65,7 @@ loop-i-preserved c =
       len,
       overflow_again a.limit l.i (take a.used a.entries) no_entry e l.list c.if-is_active.list t (omega arith) (get_or-take a.used a.entries l.i no_entry turn) c.before.is_active.ensures
           (elim c.if-is_active.branch [
-              then-is_active+then-at-limit w ↦ stored a.limit l.list c.if-is_active.list e.light t w.if-is_active.true w.if-at-limit.true w.list-is
+            | then-is_active+then-at-limit w ↦ stored a.limit l.list c.if-is_active.list e.light t w.if-is_active.true w.if-at-limit.true w.list-is
             | then-is_active+else-at-limit w ↦ full a.limit l.list c.if-is_active.list e.light t w.if-is_active.true w.if-at-limit.false w.list-is
             | else-is_active w ↦ off a.limit l.list c.if-is_active.list e.light t w.if-is_active.false w.list-is
           ])

@@ -3,7 +3,6 @@
 use Prim.Native.Nat.{◌-◌, ◌≤◌}
 use native.Mathlib.Omega.{arith}
 use mathlib.Core.Path.{◌≡◌, ◌∙◌}
-use mathlib.Core.Logic.{⊎_elim}
 use lib.ListN.{length, drop, get_or, drop_of_length-le}
 use Rattle.light_table.proofs.Turn.{stored, full, off}
 use Rattle.light_table.proofs.Compaction.{no_light, slots_again}
@@ -65,7 +64,7 @@ loop-i-preserved c =
       len,
       slots_again a.limit a.mask l.i a.lights no_light l.list c.if-has_bit.list t (omega arith) c.before.has_bit.ensures
           (elim c.if-has_bit.branch [
-              then-has_bit+then-at-limit w ↦ stored a.limit l.list c.if-has_bit.list light t w.if-has_bit.true w.if-at-limit.true w.list-is
+            | then-has_bit+then-at-limit w ↦ stored a.limit l.list c.if-has_bit.list light t w.if-has_bit.true w.if-at-limit.true w.list-is
             | then-has_bit+else-at-limit w ↦ full a.limit l.list c.if-has_bit.list light t w.if-has_bit.true w.if-at-limit.false w.list-is
             | else-has_bit w ↦ off a.limit l.list c.if-has_bit.list light t w.if-has_bit.false w.list-is
           ])

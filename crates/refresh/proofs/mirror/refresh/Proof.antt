@@ -1,18 +1,10 @@
 -- `refresh::mirror::refresh` meets its contract: a refused refresh returns before anything is written; an accepted one writes the sections in the table's order.
 -- Assumes nothing.
-use Prim.Native.Nat.{ℕ, suc}
-use native.Mathlib.Omega.{arith}
-use mathlib.Core.Path.{◌≡◌, sym, ap, subst, ◌∙◌}
-use mathlib.Core.Logic.{⊎_elim}
-use mathlib.Core.List.{[], ◌∷◌}
+use mathlib.Core.Path.{sym, ap, ◌∙◌}
 use lib.ListN.{length}
-use types.Run.{OneOf}
-use denote.Enum.Declared.{tag_of}
-use Rattle.refresh.specs.contracts.answer.RefreshAnswer.{the_type}
 use Rattle.refresh.specs.Mirror.{refresh_by, refresh_mirror}
 use Rattle.refresh.specs.declared.answer.RefreshAnswer.{RefreshAnswer}
-use Rattle.refresh.specs.declared.answer.RefreshAnswer.TheVariants.{Accepted}
-use Rattle.refresh.proofs.Answers.{Fit, accepted_fits}
+use Rattle.refresh.proofs.Answers.{accepted_fits}
 use Rattle.refresh.proofs.Writes.{refused, done}
 use borrow.Author.Rules.{rules}
 use Rattle.refresh.proofs.mirror.refresh.Statement.{statement}

@@ -3,7 +3,6 @@
 use Prim.Native.Nat.{ℕ, ◌+◌, ◌-◌, ◌*◌}
 use native.Mathlib.Omega.{arith}
 use mathlib.Core.Path.{◌≡◌, sym, ap, ◌∙◌}
-use lib.ListN.{length-map}
 use Rattle.sections.specs.Counts.{section_rows}
 use Rattle.sections.specs.Sections.{first_row}
 use Rattle.sections.proofs.Tiles.{fits-mirror}

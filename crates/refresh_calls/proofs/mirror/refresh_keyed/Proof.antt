@@ -2,7 +2,6 @@
 -- Assumes nothing.
 use Prim.Native.Nat.{ℕ}
 use mathlib.Core.Path.{◌≡◌, sym, ap, ap₂, ◌∙◌}
-use mathlib.Core.Bool.{false}
 use mathlib.Core.List.{List}
 use Rattle.ff_state.specs.Dirty.{take_ff_vs_dirty}
 use Rattle.sections.specs.Sections.{sections}
@@ -10,7 +9,6 @@ use Rattle.ff_state.specs.declared.dirty.Taken.{Taken}
 use Rattle.ff_state.specs.declared.state.FfState.{FfState}
 use Rattle.image.specs.Format.{image_bytes}
 use Rattle.image.specs.Read.{state_of}
-use Rattle.image_reasons.specs.Reasons.{refused}
 use Rattle.refresh.specs.Answer.{refresh_answer, refresh_number}
 use Rattle.refresh.proofs.Answers.{accepted_fits}
 use Rattle.calls.proofs.Calls.{image_long, image_fits}

@@ -3,7 +3,7 @@
 use Prim.Native.Nat.{ℕ, ◌+◌, ◌-◌, ◌*◌}
 use native.Mathlib.Omega.{arith}
 use mathlib.Core.Path.{◌≡◌, sym, ap, ◌∙◌}
-use lib.ListN.{length, length-map}
+use lib.ListN.{length}
 use Rattle.codec.specs.Float.{float_bytes}
 use Rattle.image_lists.proofs.Writing.{length-listBytes}
 use Rattle.sections.specs.Sections.{first_row}

@@ -8,7 +8,6 @@ use mathlib.Core.List.{List, []}
 use lib.Ieee.{Float, of_bits}
 use lib.ListN.{length}
 use lib.Seq.{sets}
-use borrow.Author.Tests.{not-true, not-false}
 use Rattle.d3d9_types.specs.Color.{color_row}
 use Rattle.d3d9_types.specs.declared.material.D3DMATERIAL9.{D3DMATERIAL9}
 use Rattle.rows.specs.Rows.{row_floats, floats}

@@ -3,7 +3,7 @@
 use Prim.Native.Nat.{◌*◌}
 use native.Mathlib.Omega.{arith}
 use mathlib.Core.Path.{ap}
-use Rattle.sections.specs.Counts.{places, light_count}
+use Rattle.sections.specs.Counts.{light_count}
 use Rattle.sections.proofs.Bounds.{places_most}
 use borrow.Author.Rules.{rules}
 use Rattle.sections.proofs.counts.lights_section_rows.Statement.{statement}

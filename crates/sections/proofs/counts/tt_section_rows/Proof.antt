@@ -3,7 +3,7 @@
 use Prim.Native.Nat.{◌*◌}
 use native.Mathlib.Omega.{arith}
 use mathlib.Core.Path.{ap}
-use Rattle.sections.specs.Counts.{places, texture_count}
+use Rattle.sections.specs.Counts.{texture_count}
 use Rattle.sections.proofs.Bounds.{places_most}
 use borrow.Author.Rules.{rules}
 use Rattle.sections.proofs.counts.tt_section_rows.Statement.{statement}
