@@ -18,6 +18,8 @@ import sys
 WORD = r"[A-Za-z0-9_'₀-₉ₐ-ₜ⁰-⁹²³¹ℕ]"
 TOKEN = re.compile(rf"(?<![\w'·-])[a-z]{WORD}*(?:-{WORD}+)*(?![\w'-])")
 SIGNATURE = re.compile(rf"(?:(?:unfoldable|abbrev) )?(?:pub )?([A-Za-z]{WORD}*(?:[-·]{WORD}+)*) :(?: |$)")
+# Below a `module` line or a `where`.
+INNER = re.compile(rf" {{2,8}}(?:pub )?(?:(?:unfoldable|abbrev) )?(?:pub )?([a-z]{WORD}*(?:-{WORD}+)*) : ")
 FIELD = re.compile(rf"  (?:pub )?((?:[a-z]{WORD}*(?:-{WORD}+)*)(?: [a-z]{WORD}*(?:-{WORD}+)*)*) : ")
 LIBRARY_WORDS = set("length map take drop append set replicate get_or sum add mul sub div mod pow cond not min max".split())
 
@@ -30,10 +32,13 @@ def own_names():
     """Names that the repository defines; those among them that are definitions of specs/; fields and constructors; made names."""
     names, definitions, fields, made = set(), set(), set(), set()
     for path in antt_files():
-        block = False
+        block = inside = False
         for line in open(path, encoding="utf-8"):
+            if line.strip() == "where":
+                inside = True
             if line[:1] not in (" ", "\n", "-", ""):
                 block = bool(re.match(r"(pub )?(record|data) ", line))
+                inside = line.startswith("module ")
                 m = SIGNATURE.match(line)
                 if m and m.group(1) != "use":
                     if re.search(r": (tie|goal)\.", line):
@@ -46,6 +51,10 @@ def own_names():
                 m = FIELD.match(line)
                 if m:
                     fields.update(m.group(1).split())
+            elif inside:
+                m = INNER.match(line)
+                if m:
+                    names.add(m.group(1))
     return names, definitions, fields, made
 
 
@@ -83,7 +92,8 @@ def table(names, definitions, fields, made, library):
     known = definitions | LIBRARY_WORDS
     every = names | fields
     wanted = {n: respelled(n, known) for n in every if n not in library and n not in made}
-    wanted = {n: to for n, to in wanted.items() if n != to}
+    # Nor does a name become one of the library's.
+    wanted = {n: to for n, to in wanted.items() if n != to and to not in library}
     taken = collections.defaultdict(set)
     for n in every:
         taken[wanted.get(n, n)].add(n)
@@ -97,7 +107,7 @@ def table(names, definitions, fields, made, library):
                     kept.append(n)
                     if wanted[n] == n:
                         del wanted[n]
-                elif n == to and n not in definitions:
+                elif n == to and n not in definitions and any(re.search("[A-Z]", other) for other in group):
                     # port.py wrote it so, since the library has a name that it was.
                     wanted[n] = n.replace("_", "-")
                     kept.append(n)

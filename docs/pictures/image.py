@@ -28,24 +28,24 @@ WORDS = {
 def image_fields():
     """(place, bytes, name, what is stored) of each field, in order."""
     length = text_of("crates/image_reasons/specs/Length.antt")
-    end = sum(number(re.search(rf"^{name} = ([\d_]+)$", length, re.M)[1]) for name in ("entriesEnd", "tailLength"))
-    states = re.search(r"^statesBytes r = (.*)$", text_of("crates/codec/specs/RenderStates.antt"), re.M)[1]
+    end = sum(number(re.search(rf"^{name} = ([\d_]+)$", length, re.M)[1]) for name in ("entries_end", "tail_length"))
+    states = re.search(r"^states_bytes r = (.*)$", text_of("crates/codec/specs/RenderStates.antt"), re.M)[1]
     table = re.findall(r"field ([\d_]+) \((.*)\)$", text_of("crates/image/specs/Format.antt"), re.M)
     places = [number(place) for place, _ in table] + [end]
     fields = []
     for i, (_, bytes_of) in enumerate(table):
         size = places[i + 1] - places[i]
-        name = re.search(r"s \.«?(\w+)»?", bytes_of)
-        name = name[1] if name else "ff_vs_dirty" if "dirtyWord" in bytes_of else "zero"
-        if bytes_of.startswith("statesBytes"):
-            inner = re.findall(r"(floatBytes|littleBytes 4) \(r \.«?(\w+)»?\)", states)
+        name = re.search(r"s\.(\w+)", bytes_of)
+        name = name[1] if name else "ff_vs_dirty" if "dirty_word" in bytes_of else "zero"
+        if bytes_of.startswith("states_bytes"):
+            inner = re.findall(r"(float_bytes|little_bytes 4) r\.(\w+)", states)
             assert 4 * len(inner) == size
             fields += [
-                (places[i] + 4 * k, 4, field, "a float" if kind == "floatBytes" else "a u32")
+                (places[i] + 4 * k, 4, field, "a float" if kind == "float_bytes" else "a u32")
                 for k, (kind, field) in enumerate(inner)
             ]
             continue
-        each = {"matrixBytes": (64, "matri", "x", "ces"), "lightBytes": (104, "light", "", "s"), "entryBytes": (112, "entr", "y", "ies")}
+        each = {"matrix_bytes": (64, "matri", "x", "ces"), "light_bytes": (104, "light", "", "s"), "entry_bytes": (112, "entr", "y", "ies")}
         kind = next((each[word] for word in each if word in bytes_of), None)
         if kind:
             count = size // kind[0]

@@ -8,7 +8,7 @@ TINTS = {"calls": "#d9822b", "code": "#3f6ea3", "definitions": "#6f8f4e", "theor
 
 
 def kind(crate):
-    if f'"{crate}"' in text_of("bindings/rust/archives.rs"):
+    if crate.endswith("_c") and f'"{crate[:-2]}"' in text_of("bindings/rust/archives.rs"):
         return "calls"
     source = "\n".join(path.read_text(encoding="utf-8") for path in sorted((ROOT / "crates" / crate / "src").glob("*.rt")))
     if re.search(r"^\s*(pub )?(extern \"C\" )?fn ", source, re.M):
@@ -24,6 +24,7 @@ def groups():
             found.append((line[2:], []))
         elif ":" in line:
             name, used = line.split(":")
+            name = name.removesuffix(" staticlib")
             found[-1][1].append(name)
             uses[name] = used.split()
     return found, uses

@@ -11,28 +11,28 @@ STATES = {
     "leb 257 n && leb n 511": "the others",
 }
 SETTERS = {
-    "setMaterial": "the material",
-    "setLight": "a light",
-    "enableLight": "its enable",
-    "setFogStart": "fog's start",
-    "setFogEnd": "end",
-    "setFogDensity": "density",
-    "setAmbient": "the ambient colour",
-    "setTextureMask": "the texture mask",
+    "set_material": "the material",
+    "set_light": "a light",
+    "enable_light": "its enable",
+    "set_fog_start": "fog's start",
+    "set_fog_end": "end",
+    "set_fog_density": "density",
+    "set_ambient": "the ambient colour",
+    "set_texture_mask": "the texture mask",
 }
 
 
 def sections():
     """(name, bit, first row, rows in words, what marks it) of each section, by its first row; and the number of rows."""
     table, counts = text_of("crates/sections/specs/Sections.antt"), text_of("crates/sections/specs/Counts.antt")
-    bits = dict(re.findall(r"^bitOf (\w+) = (\d+)$", table, re.M))
-    rows = {name: int(row) for name, row in re.findall(r"^firstRow (\w+) = (\d+)$", table, re.M)}
-    plain = dict(re.findall(r"^sectionRows (\w+) k t = (\d+)$", counts, re.M))
-    specular, lit, unlit = re.search(r"^materialCount .* (\d) (\d)\) (\d)$", counts, re.M).groups()
-    six = re.search(r"^lightCount .*\* (\d)$", counts, re.M)[1]
-    four = re.search(r"^textureCount .*\* (\d)$", counts, re.M)[1]
-    each = re.search(r"^paletteCount .*\* (\d)$", counts, re.M)[1]
-    indexed = re.search(r"^paletteMatrices .*«vertex_blend_indexed»\) (\d+) ", counts, re.M)[1]
+    bits = dict(re.findall(r"^bit_of (\w+) = (\d+)$", table, re.M))
+    rows = {name: int(row) for name, row in re.findall(r"^first_row (\w+) = (\d+)$", table, re.M)}
+    plain = dict(re.findall(r"^section_rows (\w+) k t = (\d+)$", counts, re.M))
+    specular, lit, unlit = re.search(r"^material_count .* (\d) (\d)\) (\d)$", counts, re.M).groups()
+    six = re.search(r"^light_count .*\* (\d)$", counts, re.M)[1]
+    four = re.search(r"^texture_count .*\* (\d)$", counts, re.M)[1]
+    each = re.search(r"^palette_count .*\* (\d)$", counts, re.M)[1]
+    indexed = re.search(r"^palette_matrices .*k\.vertex_blend_indexed (\d+) ", counts, re.M)[1]
     words = {
         "Material": f"{unlit}; lit {lit}; with specular {specular}",
         "Lights": f"{six} for each light that is packed",
@@ -45,7 +45,7 @@ def sections():
     for test, names in re.findall(r"cond \((eqb n \d+|leb \d+ n && leb n \d+)\) \(([^()]*)\[\]\)", marks):
         for name in re.findall(r"\w+", names):
             marked[name].append(STATES[test])
-    for setter, name in re.findall(r"^marksSection \((\w+) [^)]*\) = among \((\w+) ∷ \[\]\)$", marks, re.M):
+    for setter, name in re.findall(r"^marks_section \((\w+) [^)]*\) = among \((\w+) ∷ \[\]\)$", marks, re.M):
         marked[name].append(SETTERS[setter])
     last = rows["Palette"] + 255 * int(each)
     order = sorted(rows, key=rows.get)

@@ -79,7 +79,7 @@ fn an_images_fields_lie_where_the_format_has_them() {
         .expect("fog's place");
     let states = fields_at(
         "crates/codec/specs/RenderStates.antt",
-        "statesAt bytes at =",
+        "states_at bytes at =",
     );
     places.splice(fog..=fog, states.iter().map(|at| image_at::FOG_START + at));
 
@@ -147,18 +147,18 @@ fn a_records_fields_lie_where_the_codec_has_them() {
         "THETA",
         "PHI",
     ];
-    let places = fields_at("crates/codec/specs/Light.antt", "lightAt bytes at =");
+    let places = fields_at("crates/codec/specs/Light.antt", "light_at bytes at =");
     assert_eq!(named("LIGHT_AT_", &light), places);
     assert_eq!(beginning("LIGHT_AT_"), places.len());
     assert_eq!(named("", &["LIGHT_BYTES"]), [Light::BYTES]);
 
     let material = ["DIFFUSE", "AMBIENT", "SPECULAR", "EMISSIVE", "POWER"];
-    let places = fields_at("crates/codec/specs/Material.antt", "materialAt bytes at =");
+    let places = fields_at("crates/codec/specs/Material.antt", "material_at bytes at =");
     assert_eq!(named("MATERIAL_AT_", &material), places);
     assert_eq!(beginning("MATERIAL_AT_"), places.len());
     assert_eq!(named("", &["MATERIAL_BYTES"]), [Material::BYTES]);
 
-    let places = fields_at("crates/image_lists/specs/Entry.antt", "entryAt bytes at =");
+    let places = fields_at("crates/image_lists/specs/Entry.antt", "entry_at bytes at =");
     assert_eq!(named("ENTRY_AT_", &["INDEX", "ENABLED", "LIGHT"]), places);
     assert_eq!(places[2] + Light::BYTES, ENTRY_BYTES);
     assert_eq!(
@@ -186,7 +186,7 @@ fn sections_have_the_bits_and_rows_of_the_table() {
         ("Palette", "PALETTE", DIRTY_PALETTE, ROW_PALETTE),
     ];
     for (section, name, bit, row) in sections {
-        let table = [value("bitOf", section), value("firstRow", section)];
+        let table = [value("bit_of", section), value("first_row", section)];
         assert_eq!(table, [bit as usize, row], "{name} of the crate");
         let header = [named("DIRTY_", &[name]), named("ROW_", &[name])].concat();
         assert_eq!(header, table, "{name} of the header");
@@ -225,7 +225,7 @@ fn counts_are_the_same_in_the_header_and_here() {
     // Two of them, and one that this crate does not name, in the table of keys.
     let keys = text("crates/sections/specs/Key.antt");
     for (preview, name) in [(true, "PREVIEW_LIGHTS"), (false, "LIGHT_SLOTS")] {
-        let line = format!("limitOf {preview} = {}", named("", &[name])[0]);
+        let line = format!("limit_of {preview} = {}", named("", &[name])[0]);
         assert!(keys.lines().any(|row| row == line), "no line {line}");
     }
     // What they count, in the image's table.
