@@ -31,12 +31,12 @@ kinds t = ap (λ (b : Bool). leb 1 t && b) (leb-suc-suc t 3)
 -- ---- the slots
 
 module _ (mask : ℕ) (d : ℕ → Bool) (g : ℕ → AbstractLight) (bits : (j : ℕ) → j < 8 → has_bit mask j ≡ (d j && lights? (g j))) where
-  slots-active : (i : ℕ) (xs : List D3DLIGHT9) → i + length xs ≤ 8 → ((k : ℕ) → k < length xs → get_or xs k default_light ≡ (g (i + k)).light)
+  slots_active : (i : ℕ) (xs : List D3DLIGHT9) → i + length xs ≤ 8 → ((k : ℕ) → k < length xs → get_or xs k default_light ≡ (g (i + k)).light)
       → slots_from i mask xs ≡ active_of (defined_from d g i (length xs))
   unfolding slots_from defined_from active_of
-  slots-active i [] h same = refl
-  slots-active i (x ∷ xs) h same =
-      rw (bits i (omega arith), first, slots-active (suc i) xs (omega arith) later) (go (d i))
+  slots_active i [] h same = refl
+  slots_active i (x ∷ xs) h same =
+      rw (bits i (omega arith), first, slots_active (suc i) xs (omega arith) later) (go (d i))
     where
       first : x ≡ (g i).light
       first = same 0 (omega arith) ∙ ap (λ (n : ℕ). (g n).light) (add-zero i)
@@ -68,24 +68,24 @@ regroup true false false = refl
 regroup false c e = refl
 
 module _ {s : FfState} (v : Valid s) where
-  pub active-bits : (j : ℕ) → j < 8 → has_bit (light_active_mask s) j ≡ (slot_defined s j && lights? (slot_entry s j))
+  pub active_bits : (j : ℕ) → j < 8 → has_bit (light_active_mask s) j ≡ (slot_defined s j && lights? (slot_entry s j))
   unfolding light_active_mask lights?
-  active-bits j h =
+  active_bits j h =
       has_and s.light_set_mask s.light_enabled j
       ∙ ap (λ (b : Bool). b && has_bit s.light_enabled j) (v.slots.set-mask j h)
       ∙ regroup (slot_defined s j) (contributes (slot_light s j).type_) (has_bit s.light_enabled j)
       ∙ ap (λ (b : Bool). slot_defined s j && (has_bit s.light_enabled j && b)) (kinds (slot_light s j).type_)
 
-  state-active : active_lights s ≡ active_of (state_lights s)
+  state_active : active_lights s ≡ active_of (state_lights s)
   unfolding active_lights state_lights
-  state-active =
+  state_active =
       ap₂ (λ (x y : List D3DLIGHT9). x ++ y)
-      (slots-active (light_active_mask s) (slot_defined s) (slot_entry s) active-bits 0 s.lights (omega (arith, v.lights_length)) (λ k h. ap (slot_light s) (sym (zero-add k)))
+      (slots_active (light_active_mask s) (slot_defined s) (slot_entry s) active_bits 0 s.lights (omega (arith, v.lights_length)) (λ k h. ap (slot_light s) (sym (zero-add k)))
       ∙ ap (λ (n : ℕ). active_of (defined_from (slot_defined s) (slot_entry s) 0 n)) v.lights_length)
       (entries_active (used s))
       ∙ sym (active_append (defined_from (slot_defined s) (slot_entry s) 0 8) (map overflow_entry (used s)))
 
   module _ {a : AbstractState} (g : Agrees s a) where
-    pub active-agrees : active_lights s ≡ abstract_active a
+    pub active_agrees : active_lights s ≡ abstract_active a
     unfolding abstract_active
-    active-agrees = state-active ∙ ap active_of g.lights
+    active_agrees = state_active ∙ ap active_of g.lights

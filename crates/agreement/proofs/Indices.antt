@@ -24,26 +24,26 @@ above_append j [] ys h g = g
 above_append j (x ∷ xs) ys h g = (h.0, above_append j xs ys h.1 g)
 
 module _ (j : ℕ) where
-  pub lookup-above : (xs : List AbstractLight) → Above j xs → lookup j xs ≡ none
+  pub lookup_above : (xs : List AbstractLight) → Above j xs → lookup j xs ≡ none
   unfolding lookup
-  lookup-above [] h = refl
-  lookup-above (x ∷ xs) h = rw (ne_eqb x.index j (λ e. omega (arith, h.0))) (lookup-above xs h.1)
+  lookup_above [] h = refl
+  lookup_above (x ∷ xs) h = rw (ne_eqb x.index j (λ e. omega (arith, h.0))) (lookup_above xs h.1)
 
-  pub lookup-below : (xs ys : List AbstractLight) → Below j xs → lookup j (xs ++ ys) ≡ lookup j ys
+  pub lookup_below : (xs ys : List AbstractLight) → Below j xs → lookup j (xs ++ ys) ≡ lookup j ys
   unfolding lookup
-  lookup-below [] ys h = refl
-  lookup-below (x ∷ xs) ys h = rw (ne_eqb x.index j (λ e. omega (arith, h.0))) (lookup-below xs ys h.1)
+  lookup_below [] ys h = refl
+  lookup_below (x ∷ xs) ys h = rw (ne_eqb x.index j (λ e. omega (arith, h.0))) (lookup_below xs ys h.1)
 
   module _ (change : AbstractLight → AbstractLight) (new : AbstractLight) where
-    pub changed-above : (xs : List AbstractLight) → Above j xs → changed_at j change new xs ≡ new ∷ xs
+    pub changed_above : (xs : List AbstractLight) → Above j xs → changed_at j change new xs ≡ new ∷ xs
     unfolding changed_at
-    changed-above [] h = refl
-    changed-above (x ∷ xs) h = rw (le-ltb x.index j (omega (arith, h.0)), ne_eqb x.index j (λ e. omega (arith, h.0)))
+    changed_above [] h = refl
+    changed_above (x ∷ xs) h = rw (le-ltb x.index j (omega (arith, h.0)), ne_eqb x.index j (λ e. omega (arith, h.0)))
 
-    pub changed-below : (xs ys : List AbstractLight) → Below j xs → changed_at j change new (xs ++ ys) ≡ xs ++ changed_at j change new ys
+    pub changed_below : (xs ys : List AbstractLight) → Below j xs → changed_at j change new (xs ++ ys) ≡ xs ++ changed_at j change new ys
     unfolding changed_at
-    changed-below [] ys h = refl
-    changed-below (x ∷ xs) ys h = rw (lt-ltb x.index j h.0) (ap (λ (l : List AbstractLight). x ∷ l) (changed-below xs ys h.1))
+    changed_below [] ys h = refl
+    changed_below (x ∷ xs) ys h = rw (lt-ltb x.index j h.0) (ap (λ (l : List AbstractLight). x ∷ l) (changed_below xs ys h.1))
 
 -- ---- the lights of index 8 or more
 

@@ -8,28 +8,28 @@ use Rattle.d3d9_model.specs.Operations.{Operation, set_transform, multiply_trans
 use Rattle.ff_state.specs.Lights.{has_room}
 use Rattle.ff_state.specs.Valid.{Valid}
 use Rattle.ff_state.specs.declared.state.FfState.{FfState}
-use Rattle.ff_state.proofs.Room.{set-answer, enable-answer}
+use Rattle.ff_state.proofs.Room.{set-answer, enable_answer}
 use Rattle.agreement.specs.Agrees.{Agrees}
 use Rattle.ff_state.specs.Operate.{operate, OperationFits}
 use Rattle.agreement.proofs.Dirty.{marked_valid, marked_agrees, mark-number}
-use Rattle.agreement.proofs.Transforms.{set-number, set-valid, set_agrees, multiply-number, multiply-valid, multiply-agrees}
-use Rattle.agreement.proofs.Material.{material-valid, material-agrees}
-use Rattle.agreement.proofs.States.{fog-start-valid, fog-end-valid, fog-density-valid, ambient-valid, mask-valid, fog-start-agrees, fog-end-agrees, fog-density-agrees, ambient-agrees, mask-agrees}
+use Rattle.agreement.proofs.Transforms.{set-number, set_valid, set_agrees, multiply_number, multiply_valid, multiply_agrees}
+use Rattle.agreement.proofs.Material.{material_valid, material_agrees}
+use Rattle.agreement.proofs.States.{fog_start_valid, fog_end_valid, fog_density_valid, ambient_valid, mask_valid, fog_start_agrees, fog_end_agrees, fog_density_agrees, ambient_agrees, mask_agrees}
 use Rattle.agreement.proofs.Lights.{full_is}
-use Rattle.agreement.proofs.LightCalls.{set-light-valid, set-light-agrees, enable-light-valid, enable-light-agrees}
+use Rattle.agreement.proofs.LightCalls.{set_light_valid, set_light_agrees, enable_light_valid, enable_light_agrees}
 
 pub valid_kept : {s : FfState} → Valid s → (op : Operation) → OperationFits op → Valid (operate s op).state
 unfolding operate
-valid_kept v (set_transform n m) h = set-valid v n m h
-valid_kept v (multiply_transform n m) h = multiply-valid v n m
-valid_kept v (set_material m) h = material-valid m h v
-valid_kept v (set_light i l) h = set-light-valid v i h.0 l h.1
-valid_kept v (enable_light i on) h = enable-light-valid v i h on
-valid_kept v (set_fog_start x) h = fog-start-valid x h v
-valid_kept v (set_fog_end x) h = fog-end-valid x h v
-valid_kept v (set_fog_density x) h = fog-density-valid x h v
-valid_kept v (set_ambient c) h = ambient-valid c h v
-valid_kept v (set_texture_mask t) h = mask-valid t h v
+valid_kept v (set_transform n m) h = set_valid v n m h
+valid_kept v (multiply_transform n m) h = multiply_valid v n m
+valid_kept v (set_material m) h = material_valid m h v
+valid_kept v (set_light i l) h = set_light_valid v i h.0 l h.1
+valid_kept v (enable_light i on) h = enable_light_valid v i h on
+valid_kept v (set_fog_start x) h = fog_start_valid x h v
+valid_kept v (set_fog_end x) h = fog_end_valid x h v
+valid_kept v (set_fog_density x) h = fog_density_valid x h v
+valid_kept v (set_ambient c) h = ambient_valid c h v
+valid_kept v (set_texture_mask t) h = mask_valid t h v
 valid_kept v (mark bits) h = marked_valid bits v
 
 -- an answer by the room that there is, by whether the abstract table is full
@@ -43,10 +43,10 @@ light-number {s} v g i n h = rw (full_is v g i) (room_or_full n (has_room s i) h
 pub refused-alike : {s : FfState} {a : AbstractState} → Valid s → Agrees s a → (op : Operation) → (operate s op).number ≡ abstract_refusal a op
 unfolding operate abstract_refusal
 refused-alike v g (set_transform n m) = set-number v n m
-refused-alike v g (multiply_transform n m) = multiply-number v n m
+refused-alike v g (multiply_transform n m) = multiply_number v n m
 refused-alike v g (set_material m) = refl
 refused-alike {s} v g (set_light i l) = light-number v g i _ (set-answer s i l)
-refused-alike {s} v g (enable_light i on) = light-number v g i _ (enable-answer s i on)
+refused-alike {s} v g (enable_light i on) = light-number v g i _ (enable_answer s i on)
 refused-alike v g (set_fog_start x) = refl
 refused-alike v g (set_fog_end x) = refl
 refused-alike v g (set_fog_density x) = refl
@@ -66,13 +66,13 @@ mark_step a bits = either_way (eqb (abstract_refusal a (mark bits)) 0) a
 pub agrees_kept : {s : FfState} {a : AbstractState} → Valid s → Agrees s a → (op : Operation) → OperationFits op → Agrees (operate s op).state (abstract_step a op)
 unfolding operate
 agrees_kept v g (set_transform n m) h = set_agrees v n m g
-agrees_kept v g (multiply_transform n m) h = multiply-agrees v g n m
-agrees_kept v g (set_material m) h = material-agrees m g
-agrees_kept v g (set_light i l) h = set-light-agrees v i h.0 l h.1 g
-agrees_kept v g (enable_light i on) h = enable-light-agrees v i h on g
-agrees_kept v g (set_fog_start x) h = fog-start-agrees x g
-agrees_kept v g (set_fog_end x) h = fog-end-agrees x g
-agrees_kept v g (set_fog_density x) h = fog-density-agrees x g
-agrees_kept v g (set_ambient c) h = ambient-agrees c g
-agrees_kept v g (set_texture_mask t) h = mask-agrees t g
+agrees_kept v g (multiply_transform n m) h = multiply_agrees v g n m
+agrees_kept v g (set_material m) h = material_agrees m g
+agrees_kept v g (set_light i l) h = set_light_agrees v i h.0 l h.1 g
+agrees_kept v g (enable_light i on) h = enable_light_agrees v i h on g
+agrees_kept v g (set_fog_start x) h = fog_start_agrees x g
+agrees_kept v g (set_fog_end x) h = fog_end_agrees x g
+agrees_kept v g (set_fog_density x) h = fog_density_agrees x g
+agrees_kept v g (set_ambient c) h = ambient_agrees c g
+agrees_kept v g (set_texture_mask t) h = mask_agrees t g
 agrees_kept {a = a} v g (mark bits) h = rw (mark_step a bits) (marked_agrees bits g)

@@ -30,12 +30,12 @@ use Rattle.light_table.proofs.Sorted.{put_in}
 use Rattle.words.proofs.Words.{flag_small_cond}
 use Rattle.agreement.specs.Agrees.{Agrees, defined_from, slot_defined, slot_entry, overflow_entry, state_lights}
 use Rattle.agreement.proofs.Dirty.{dirtied_valid, dirtied_agrees}
-use Rattle.agreement.proofs.Indices.{changed-below}
-use Rattle.agreement.proofs.Defined.{defined-below}
-use Rattle.agreement.proofs.Entries.{entries-changed}
-use Rattle.agreement.proofs.Slots.{set-slot-valid, enable_slot_valid}
-use Rattle.agreement.proofs.SlotLights.{set-slot-agrees, enable-slot-agrees}
-use Rattle.agreement.proofs.Overflow.{EntryValid, with_entry, with_new_entry, found_entry, place-most, entry-used, entry-index, entry-fits, replaced-used, replaced-valid, inserted-is, inserted-valid}
+use Rattle.agreement.proofs.Indices.{changed_below}
+use Rattle.agreement.proofs.Defined.{defined_below}
+use Rattle.agreement.proofs.Entries.{entries_changed}
+use Rattle.agreement.proofs.Slots.{set_slot_valid, enable_slot_valid}
+use Rattle.agreement.proofs.SlotLights.{set_slot_agrees, enable_slot_agrees}
+use Rattle.agreement.proofs.Overflow.{EntryValid, with_entry, with_new_entry, found_entry, place_most, entry-used, entry_index, entry_fits, replaced_used, replaced_valid, inserted_is, inserted_valid}
 use Rattle.agreement.proofs.Lights.{LightOutcome, in-slot, replaced, inserted, refused, light_outcome, full_is}
 
 -- ---- what a call is, by its outcome
@@ -44,19 +44,19 @@ module _ (s : FfState) (i : ℕ) (t : FfState) (change : OverflowLight → Overf
   abbrev call : LightChanged
   call = cond (ltb i 8) (in_slot t) (change_entry s (found s i) change made)
 
-  call-slot : i < 8 → call ≡ in_slot t
-  call-slot low = ap (λ (b : Bool). cond b (in_slot t) (change_entry s (found s i) change made)) (lt-ltb i 8 low)
+  call_slot : i < 8 → call ≡ in_slot t
+  call_slot low = ap (λ (b : Bool). cond b (in_slot t) (change_entry s (found s i) change made)) (lt-ltb i 8 low)
 
-  call-entry : 8 ≤ i → (b : Bool) → (found s i).stored ≡ b → call ≡ cond b (replace_entry s (found s i).at (change (found_entry s i))) (insert_entry s (found s i).at made)
+  call_entry : 8 ≤ i → (b : Bool) → (found s i).stored ≡ b → call ≡ cond b (replace_entry s (found s i).at (change (found_entry s i))) (insert_entry s (found s i).at made)
   unfolding change_entry
-  call-entry high b h =
+  call_entry high b h =
       ap (λ (b : Bool). cond b (in_slot t) (change_entry s (found s i) change made)) (le-ltb i 8 high)
       ∙ ap (λ (b : Bool). cond b (replace_entry s (found s i).at (change (found_entry s i))) (insert_entry s (found s i).at made)) h
 
-  insert-is : (b c : Bool) → ltb (used_count s.overflow_count) 56 ≡ b → ltb (found s i).at 56 ≡ c
+  insert_is : (b c : Bool) → ltb (used_count s.overflow_count) 56 ≡ b → ltb (found s i).at 56 ≡ c
       → insert_entry s (found s i).at made ≡ cond (b && c) (in_slot (with_new_entry s i made)) (record { answer = Full; state = s })
   unfolding insert_entry
-  insert-is b c p q = ap₂ (λ (x y : Bool). cond (x && y) (in_slot (with_new_entry s i made)) (record { answer = Full; state = s })) p q
+  insert_is b c p q = ap₂ (λ (x y : Bool). cond (x && y) (in_slot (with_new_entry s i made)) (record { answer = Full; state = s })) p q
 
 -- what holds of the state after each outcome holds of the state after the call
 by_outcome : {s : FfState} → Valid s → (i : ℕ) (t : FfState) (change : OverflowLight → OverflowLight) (made : OverflowLight) (P : FfState → Type 0)
@@ -72,77 +72,77 @@ by_outcome {s} v i t change made P slot stored absent none = go (light_outcome v
     there r e = subst (λ (x : LightChanged). P x.state) (sym e)
 
     go : LightOutcome s i → P (call s i t change made).state
-    go (in-slot low r) = there (in_slot t) (call-slot s i t change made low) (slot low r)
-    go (replaced high h r) = there (replace_entry s (found s i).at (change (found_entry s i))) (call-entry s i t change made high true h) (stored high h r)
+    go (in-slot low r) = there (in_slot t) (call_slot s i t change made low) (slot low r)
+    go (replaced high h r) = there (replace_entry s (found s i).at (change (found_entry s i))) (call_entry s i t change made high true h) (stored high h r)
     go (inserted high h m r) =
         there (in_slot (with_new_entry s i made))
-        (call-entry s i t change made high false h
-        ∙ insert-is s i t change made true true (lt-ltb (used_count s.overflow_count) 56 m) (lt-ltb (found s i).at 56 (omega (arith, place-most v i))))
+        (call_entry s i t change made high false h
+        ∙ insert_is s i t change made true true (lt-ltb (used_count s.overflow_count) 56 m) (lt-ltb (found s i).at 56 (omega (arith, place_most v i))))
         (absent high h m r)
     go (refused high h m r) =
         there (record { answer = Full; state = s })
-        (call-entry s i t change made high false h ∙ insert-is s i t change made false (ltb (found s i).at 56) (le-ltb (used_count s.overflow_count) 56 (omega arith)) refl)
+        (call_entry s i t change made high false h ∙ insert_is s i t change made false (ltb (found s i).at 56) (le-ltb (used_count s.overflow_count) 56 (omega arith)) refl)
         (none r)
 
 module _ {s : FfState} (v : Valid s) (i : ℕ) (t : FfState) (change : OverflowLight → OverflowLight) (made : OverflowLight)
     (slot-valid : i < 8 → Valid t) (own : (e : OverflowLight) → e.index ≡ i → (change e).index ≡ i) (fits : (e : OverflowLight) → EntryValid e → EntryValid (change e))
-    (made-own : made.index ≡ i) (made-fits : EntryValid made) where
-  call-valid : Valid (call s i t change made).state
-  call-valid =
+    (made-own : made.index ≡ i) (made_fits : EntryValid made) where
+  call_valid : Valid (call s i t change made).state
+  call_valid =
       by_outcome v i t change made Valid
       (λ low r. dirtied_valid lights_bit (omega arith) (slot-valid low))
-      (λ high h r. let e = found_entry s i in dirtied_valid lights_bit (omega arith) (replaced-valid v i (change e) (own e (entry-index v i h)) (fits e (entry-fits v i h)) h))
-      (λ high h m r. dirtied_valid lights_bit (omega arith) (inserted-valid v i made made-own made-fits h high m))
+      (λ high h r. let e = found_entry s i in dirtied_valid lights_bit (omega arith) (replaced_valid v i (change e) (own e (entry_index v i h)) (fits e (entry_fits v i h)) h))
+      (λ high h m r. dirtied_valid lights_bit (omega arith) (inserted_valid v i made made-own made_fits h high m))
       (λ r. v)
 
   -- the same change of the light that an entry is, and of the lights of a state
   module _ (change' : AbstractLight → AbstractLight) (new : AbstractLight) (alike : (e : OverflowLight) → e.index ≡ i → overflow_entry (change e) ≡ change' (overflow_entry e))
       (made_alike : overflow_entry made ≡ new) where
     -- the entries in use after the change of an entry, or with one more
-    abbrev changedUsed : Bool → List OverflowLight
-    changedUsed b = cond b (set (used s) (found s i).at (change (get_or (used s) (found s i).at zero_entry))) (put_in (found s i).at made (used s))
+    abbrev changed_used : Bool → List OverflowLight
+    changed_used b = cond b (set (used s) (found s i).at (change (get_or (used s) (found s i).at zero_entry))) (put_in (found s i).at made (used s))
 
-    overflow-changed : 8 ≤ i → (es : List OverflowLight) (n : ℕ)
-        → used (with_overflow_count (with_overflow_lights s es) n) ≡ changedUsed (found s i).stored
+    overflow_changed : 8 ≤ i → (es : List OverflowLight) (n : ℕ)
+        → used (with_overflow_count (with_overflow_lights s es) n) ≡ changed_used (found s i).stored
         → state_lights (with_overflow_count (with_overflow_lights s es) n) ≡ changed_at i change' new (state_lights s)
     unfolding state_lights found
-    overflow-changed high es n e =
+    overflow_changed high es n e =
         ap (λ (l : List OverflowLight). defined_from (slot_defined s) (slot_entry s) 0 8 ++ map overflow_entry l) e
-        ∙ ap (λ (l : List AbstractLight). defined_from (slot_defined s) (slot_entry s) 0 8 ++ l) (sym (entries-changed i change made change' alike (used s)))
-        ∙ sym (changed-below i change' (overflow_entry made) (defined_from (slot_defined s) (slot_entry s) 0 8) (map overflow_entry (used s)) (defined-below (slot_defined s) (slot_entry s) (λ k. refl) i 0 8 high))
+        ∙ ap (λ (l : List AbstractLight). defined_from (slot_defined s) (slot_entry s) 0 8 ++ l) (sym (entries_changed i change made change' alike (used s)))
+        ∙ sym (changed_below i change' (overflow_entry made) (defined_from (slot_defined s) (slot_entry s) 0 8) (map overflow_entry (used s)) (defined_below (slot_defined s) (slot_entry s) (λ k. refl) i 0 8 high))
         ∙ ap (λ (x : AbstractLight). changed_at i change' x (state_lights s)) made_alike
 
     module _ {a : AbstractState} (g : Agrees s a) (slot-agrees : i < 8 → Agrees t (replaced_lights a (changed_at i change' new a.lights))) where
       abbrev changed : AbstractState
       changed = replaced_lights a (changed_at i change' new a.lights)
 
-      entry-agrees : 8 ≤ i → (found s i).stored ≡ true → Agrees (with_entry s i (change (found_entry s i))) changed
-      entry-agrees high h =
+      entry_agrees : 8 ≤ i → (found s i).stored ≡ true → Agrees (with_entry s i (change (found_entry s i))) changed
+      entry_agrees high h =
           let at = (found s i).at in
           let e = found_entry s i in
           let lights =
-          overflow-changed high (set s.overflow_lights at (change e)) s.overflow_count
-          (replaced-used v i (change e) (own e (entry-index v i h)) (fits e (entry-fits v i h)) h
+          overflow_changed high (set s.overflow_lights at (change e)) s.overflow_count
+          (replaced_used v i (change e) (own e (entry_index v i h)) (fits e (entry_fits v i h)) h
           ∙ ap (λ (x : OverflowLight). set (used s) (found s i).at (change x)) (sym (entry-used v i h))
-          ∙ ap changedUsed (sym h))
+          ∙ ap changed_used (sym h))
           ∙ ap (changed_at i change' new) g.lights in
           record { matrices = g.matrices; material = g.material; lights = lights; highest = g.highest; states = g.states; texture-mask = g.texture-mask }
 
-      grown-agrees : 8 ≤ i → (found s i).stored ≡ false → used_count s.overflow_count < 56 → Agrees (with_new_entry s i made) changed
-      grown-agrees high h m =
+      grown_agrees : 8 ≤ i → (found s i).stored ≡ false → used_count s.overflow_count < 56 → Agrees (with_new_entry s i made) changed
+      grown_agrees high h m =
           let lights =
-          overflow-changed high (inserted_at (found s i).at made s.overflow_lights) (used_count s.overflow_count + 1)
-          (inserted-is v i made made-own made-fits h high m ∙ ap changedUsed (sym h))
+          overflow_changed high (inserted_at (found s i).at made s.overflow_lights) (used_count s.overflow_count + 1)
+          (inserted_is v i made made-own made_fits h high m ∙ ap changed_used (sym h))
           ∙ ap (changed_at i change' new) g.lights in
           record { matrices = g.matrices; material = g.material; lights = lights; highest = g.highest; states = g.states; texture-mask = g.texture-mask }
 
-      call-agrees : Agrees (call s i t change made).state (cond (eqb (cond (full a i) 3 0) 0) changed a)
-      call-agrees =
+      call_agrees : Agrees (call s i t change made).state (cond (eqb (cond (full a i) 3 0) 0) changed a)
+      call_agrees =
           rw (full_is v g i)
           (by_outcome v i t change made (λ u. Agrees u (cond (eqb (cond (not (has_room s i)) 3 0) 0) changed a))
           (λ low (r : has_room s i ≡ true). rw r (dirtied_agrees lights_bit (slot-agrees low)))
-          (λ high h (r : has_room s i ≡ true). rw r (dirtied_agrees lights_bit (entry-agrees high h)))
-          (λ high h m (r : has_room s i ≡ true). rw r (dirtied_agrees lights_bit (grown-agrees high h m)))
+          (λ high h (r : has_room s i ≡ true). rw r (dirtied_agrees lights_bit (entry_agrees high h)))
+          (λ high h m (r : has_room s i ≡ true). rw r (dirtied_agrees lights_bit (grown_agrees high h m)))
           (λ (r : has_room s i ≡ false). rw r g))
 
 -- ---- the two calls
@@ -158,44 +158,44 @@ flag_read false = refl
 
 module _ {s : FfState} (v : Valid s) (i : ℕ) (small : i < 0x1_0000_0000) where
   module _ (l : D3DLIGHT9) (f : lightFits l) where
-    set-fits : (e : OverflowLight) → EntryValid e → EntryValid (light_entry e.index e.enabled l)
-    set-fits e h = record { index = h.index; enabled = h.enabled; light = f }
+    set_fits : (e : OverflowLight) → EntryValid e → EntryValid (light_entry e.index e.enabled l)
+    set_fits e h = record { index = h.index; enabled = h.enabled; light = f }
 
-    new-fits : EntryValid (light_entry i 0 l)
-    new-fits = record { index = small; enabled = omega arith; light = f }
+    new_fits : EntryValid (light_entry i 0 l)
+    new_fits = record { index = small; enabled = omega arith; light = f }
 
-    pub set-light-valid : Valid (set_light_at s i l).state
+    pub set_light_valid : Valid (set_light_at s i l).state
     unfolding set_light_at
-    set-light-valid =
-        call-valid v i (set_slot s i l) (λ e. light_entry e.index e.enabled l) (light_entry i 0 l)
-        (λ low. set-slot-valid v i low l f) (λ e h. h) set-fits refl new-fits
+    set_light_valid =
+        call_valid v i (set_slot s i l) (λ e. light_entry e.index e.enabled l) (light_entry i 0 l)
+        (λ low. set_slot_valid v i low l f) (λ e h. h) set_fits refl new_fits
 
-    pub set-light-agrees : {a : AbstractState} → Agrees s a → Agrees (set_light_at s i l).state (abstract_step a (Operations.set_light i l))
+    pub set_light_agrees : {a : AbstractState} → Agrees s a → Agrees (set_light_at s i l).state (abstract_step a (Operations.set_light i l))
     unfolding set_light_at abstract_step abstract_refusal abstract_change light_set
-    set-light-agrees g =
-        call-agrees v i (set_slot s i l) (λ e. light_entry e.index e.enabled l) (light_entry i 0 l)
-        (λ low. set-slot-valid v i low l f) (λ e h. h) set-fits refl new-fits
+    set_light_agrees g =
+        call_agrees v i (set_slot s i l) (λ e. light_entry e.index e.enabled l) (light_entry i 0 l)
+        (λ low. set_slot_valid v i low l f) (λ e h. h) set_fits refl new_fits
         (λ e. indexed_light i e.enabled l) (indexed_light i false l) (λ e h. ap (λ (k : ℕ). indexed_light k (not (eqb e.enabled 0)) l) h) refl
-        g (λ low. set-slot-agrees v i low g l)
+        g (λ low. set_slot_agrees v i low g l)
 
   module _ (on : Bool) where
-    enable-fits : (e : OverflowLight) → EntryValid e → EntryValid (light_entry e.index (flag on) e.light)
-    enable-fits e h = record { index = h.index; enabled = flag_fits on; light = h.light }
+    enable_fits : (e : OverflowLight) → EntryValid e → EntryValid (light_entry e.index (flag on) e.light)
+    enable_fits e h = record { index = h.index; enabled = flag_fits on; light = h.light }
 
-    default-fits : EntryValid (light_entry i (flag on) default_light)
-    default-fits = record { index = small; enabled = flag_fits on; light = default_light_fits }
+    default_fits : EntryValid (light_entry i (flag on) default_light)
+    default_fits = record { index = small; enabled = flag_fits on; light = default_light_fits }
 
-    pub enable-light-valid : Valid (set_light_enabled_at s i on).state
+    pub enable_light_valid : Valid (set_light_enabled_at s i on).state
     unfolding set_light_enabled_at
-    enable-light-valid =
-        call-valid v i (enable_slot s i on) (λ e. light_entry e.index (flag on) e.light) (light_entry i (flag on) default_light)
-        (λ low. enable_slot_valid v i low on) (λ e h. h) enable-fits refl default-fits
+    enable_light_valid =
+        call_valid v i (enable_slot s i on) (λ e. light_entry e.index (flag on) e.light) (light_entry i (flag on) default_light)
+        (λ low. enable_slot_valid v i low on) (λ e h. h) enable_fits refl default_fits
 
-    pub enable-light-agrees : {a : AbstractState} → Agrees s a → Agrees (set_light_enabled_at s i on).state (abstract_step a (Operations.enable_light i on))
+    pub enable_light_agrees : {a : AbstractState} → Agrees s a → Agrees (set_light_enabled_at s i on).state (abstract_step a (Operations.enable_light i on))
     unfolding set_light_enabled_at abstract_step abstract_refusal abstract_change light_enabled
-    enable-light-agrees g =
-        call-agrees v i (enable_slot s i on) (λ e. light_entry e.index (flag on) e.light) (light_entry i (flag on) default_light)
-        (λ low. enable_slot_valid v i low on) (λ e h. h) enable-fits refl default-fits
+    enable_light_agrees g =
+        call_agrees v i (enable_slot s i on) (λ e. light_entry e.index (flag on) e.light) (light_entry i (flag on) default_light)
+        (λ low. enable_slot_valid v i low on) (λ e h. h) enable_fits refl default_fits
         (λ e. indexed_light i on e.light) (indexed_light i on default_light)
         (λ e h. ap₂ (λ (k : ℕ) (b : Bool). indexed_light k b e.light) h (flag_read on)) (ap (λ (b : Bool). indexed_light i b default_light) (flag_read on))
-        g (λ low. enable-slot-agrees v i low g on)
+        g (λ low. enable_slot_agrees v i low g on)

@@ -24,9 +24,9 @@ use Rattle.ff_state.specs.Active.{light_active_mask, active_lights, resolve_acti
 use Rattle.ff_state.specs.Valid.{Valid}
 use Rattle.ff_state.specs.declared.state.FfState.{FfState}
 use Rattle.agreement.specs.Agrees.{Agrees, slot_defined, slot_entry}
-use Rattle.agreement.proofs.Overflow.{count-used}
-use Rattle.agreement.proofs.Lights.{lookup-slot, beyond-used}
-use Rattle.agreement.proofs.Active.{active-bits, active-agrees}
+use Rattle.agreement.proofs.Overflow.{count_used}
+use Rattle.agreement.proofs.Lights.{lookup_slot, beyond_used}
+use Rattle.agreement.proofs.Active.{active_bits, active_agrees}
 
 -- ---- a number by its bits
 
@@ -92,59 +92,59 @@ and_true true false = refl
 and_true false l = refl
 
 module _ {s : FfState} {a : AbstractState} (v : Valid s) (g : Agrees s a) where
-  slot-kind : (kind : D3DLIGHT9 → Bool) (i : ℕ) → i < 8 → active_kind kind (abstract_light a i) ≡ (slot_defined s i && (lights? (slot_entry s i) && kind (slot_entry s i).light))
+  slot_kind : (kind : D3DLIGHT9 → Bool) (i : ℕ) → i < 8 → active_kind kind (abstract_light a i) ≡ (slot_defined s i && (lights? (slot_entry s i) && kind (slot_entry s i).light))
   unfolding abstract_light
-  slot-kind kind i h = ap (λ ls. active_kind kind (lookup i ls)) (sym g.lights) ∙ ap (active_kind kind) (lookup-slot v i h) ∙ here kind (slot_defined s i) (slot_entry s i)
+  slot_kind kind i h = ap (λ ls. active_kind kind (lookup i ls)) (sym g.lights) ∙ ap (active_kind kind) (lookup_slot v i h) ∙ here kind (slot_defined s i) (slot_entry s i)
 
-  raw-is : (kind : D3DLIGHT9 → Bool) (w : ℕ) → w < 256 → ((i : ℕ) → i < 8 → has_bit w i ≡ (slot_defined s i && (lights? (slot_entry s i) && kind (slot_entry s i).light))) → w ≡ raw_mask a kind
+  raw_is : (kind : D3DLIGHT9 → Bool) (w : ℕ) → w < 256 → ((i : ℕ) → i < 8 → has_bit w i ≡ (slot_defined s i && (lights? (slot_entry s i) && kind (slot_entry s i).light))) → w ≡ raw_mask a kind
   unfolding raw_mask
-  raw-is kind w h bits =
-      sym (number_is (λ i. active_kind kind (abstract_light a i)) 8 0 w h (λ k q. ap (λ n. active_kind kind (abstract_light a n)) (zero-add k) ∙ slot-kind kind k q ∙ sym (bits k q)))
+  raw_is kind w h bits =
+      sym (number_is (λ i. active_kind kind (abstract_light a i)) 8 0 w h (λ k q. ap (λ n. active_kind kind (abstract_light a n)) (zero-add k) ∙ slot_kind kind k q ∙ sym (bits k q)))
 
-  active-narrow : light_active_mask s < 256
+  active_narrow : light_active_mask s < 256
   unfolding light_active_mask
-  active-narrow = omega (arith, and_le_r s.light_set_mask s.light_enabled, v.slots.enabled_width)
+  active_narrow = omega (arith, and_le_r s.light_set_mask s.light_enabled, v.slots.enabled_width)
 
-  raw-active : light_active_mask s ≡ raw_mask a any_kind
-  raw-active = raw-is any_kind (light_active_mask s) active-narrow (λ i h. active-bits v i h ∙ and_true (slot_defined s i) (lights? (slot_entry s i)))
+  raw_active : light_active_mask s ≡ raw_mask a any_kind
+  raw_active = raw_is any_kind (light_active_mask s) active_narrow (λ i h. active_bits v i h ∙ and_true (slot_defined s i) (lights? (slot_entry s i)))
 
   -- a mask of the slots of a kind, of the active ones alone
-  raw-kind : (kind : D3DLIGHT9 → Bool) (w : ℕ) → ((i : ℕ) → i < 8 → has_bit w i ≡ (slot_defined s i && kind (slot_entry s i).light)) → bit_and w (light_active_mask s) ≡ raw_mask a kind
-  raw-kind kind w bits =
-      raw-is kind (bit_and w (light_active_mask s)) (omega (arith, and_le_r w (light_active_mask s), active-narrow))
+  raw_kind : (kind : D3DLIGHT9 → Bool) (w : ℕ) → ((i : ℕ) → i < 8 → has_bit w i ≡ (slot_defined s i && kind (slot_entry s i).light)) → bit_and w (light_active_mask s) ≡ raw_mask a kind
+  raw_kind kind w bits =
+      raw_is kind (bit_and w (light_active_mask s)) (omega (arith, and_le_r w (light_active_mask s), active_narrow))
       (λ i h.
       has_and w (light_active_mask s) i
-      ∙ ap₂ (λ (x y : Bool). x && y) (bits i h) (active-bits v i h)
+      ∙ ap₂ (λ (x y : Bool). x && y) (bits i h) (active_bits v i h)
       ∙ regroup (slot_defined s i) (lights? (slot_entry s i)) (kind (slot_entry s i).light))
 
   -- ---- the compacted lights
 
   -- "eight at most"
-  pub compacted-agrees : take 8 (active_lights s) ≡ compacted a
+  pub compacted_agrees : take 8 (active_lights s) ≡ compacted a
   unfolding compacted
-  compacted-agrees = ap (take 8) (active-agrees v g)
+  compacted_agrees = ap (take 8) (active_agrees v g)
 
-  pub resolved-agrees : let r = resolve_active_lights s 8 in take r.len r.lights ≡ compacted a
+  pub resolved_agrees : let r = resolve_active_lights s 8 in take r.len r.lights ≡ compacted a
   unfolding resolve_active_lights
-  resolved-agrees = listed_front 8 (active_lights s) ∙ compacted-agrees
+  resolved_agrees = listed_front 8 (active_lights s) ∙ compacted_agrees
 
-  pub compacted-masks : compacted_light_masks s ≡ record { active = compacted_mask a any_kind; directional = compacted_mask a is_directional; spot = compacted_mask a is_spot }
+  pub compacted_masks : compacted_light_masks s ≡ record { active = compacted_mask a any_kind; directional = compacted_mask a is_directional; spot = compacted_mask a is_spot }
   unfolding compacted_light_masks masks_of compacted_mask
-  compacted-masks = rw (compacted-agrees, low-bits (compacted a), kind_bits 3 (compacted a), kind_bits 2 (compacted a))
+  compacted_masks = rw (compacted_agrees, low-bits (compacted a), kind_bits 3 (compacted a), kind_bits 2 (compacted a))
 
   -- ---- the word
 
-  none-stored : eqb s.overflow_count 0 ≡ eqb (count_beyond a.lights) 0
-  none-stored = ap (λ (n : ℕ). eqb n 0) (sym (count-used v) ∙ sym (beyond-used v) ∙ ap count_beyond g.lights)
+  none_stored : eqb s.overflow_count 0 ≡ eqb (count_beyond a.lights) 0
+  none_stored = ap (λ (n : ℕ). eqb n 0) (sym (count_used v) ∙ sym (beyond_used v) ∙ ap count_beyond g.lights)
 
-  pub light-inputs-agree : vs_source_light_inputs s ≡ abstract_light_inputs a
+  pub light_inputs_agree : vs_source_light_inputs s ≡ abstract_light_inputs a
   unfolding vs_source_light_inputs abstract_light_inputs
-  light-inputs-agree =
+  light_inputs_agree =
       rw (
-        none-stored,
-        raw-kind is_directional s.light_directional_mask v.slots.directional_mask,
-        raw-kind is_spot s.light_spot_mask v.slots.spot_mask,
-        raw-active,
-        compacted-masks,
+        none_stored,
+        raw_kind is_directional s.light_directional_mask v.slots.directional_mask,
+        raw_kind is_spot s.light_spot_mask v.slots.spot_mask,
+        raw_active,
+        compacted_masks,
       )
       (ap₂ (λ (x y : ℕ). cond (eqb (count_beyond a.lights) 0) x y) (bytes_are _ _ _ 0) (bytes_are _ _ _ 1))

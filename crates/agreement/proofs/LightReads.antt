@@ -15,8 +15,8 @@ use Rattle.ff_state.specs.Valid.{Valid}
 use Rattle.ff_state.specs.declared.state.FfState.{FfState}
 use Rattle.agreement.specs.Agrees.{Agrees, slot_defined, slot_entry, overflow_entry, state_lights}
 use Rattle.agreement.specs.LightReads.{light_read}
-use Rattle.agreement.proofs.Lights.{lookup-slot, lookup-overflow}
-use Rattle.agreement.proofs.SlotLights.{off-undefined}
+use Rattle.agreement.proofs.Lights.{lookup_slot, lookup_overflow}
+use Rattle.agreement.proofs.SlotLights.{off_undefined}
 
 -- what is read of a light that may be there
 read_if : {A : Type 0} (F : Option AbstractLight → A) (t : Bool) (l : AbstractLight) → cond t (F (some l)) (F none) ≡ F (cond t (some l) none)
@@ -51,8 +51,8 @@ module _ {s : FfState} {a : AbstractState} (v : Valid s) (g : Agrees s a) (i : �
       branch (λ (r : A). r ≡ F (lookup i (state_lights s))) (ltb i 8) x y
       (λ (t : ltb i 8 ≡ true).
       let l = ltb-true i 8 t in
-      low l ∙ read_if F (slot_defined s i) (slot_entry s i) ∙ ap F (sym (lookup-slot v i l)))
-      (λ (t : ltb i 8 ≡ false). high ∙ read_if F (found s i).stored (overflow_entry (stored_entry s (found s i).at)) ∙ ap F (sym (lookup-overflow v i (ltb-false i 8 t))))
+      low l ∙ read_if F (slot_defined s i) (slot_entry s i) ∙ ap F (sym (lookup_slot v i l)))
+      (λ (t : ltb i 8 ≡ false). high ∙ read_if F (found s i).stored (overflow_entry (stored_entry s (found s i).at)) ∙ ap F (sym (lookup_overflow v i (ltb-false i 8 t))))
       ∙ ap (λ ls. F (lookup i ls)) g.lights
 
   pub light-read : get_light_at s i ≡ light_read (abstract_light a i)
@@ -63,13 +63,13 @@ module _ {s : FfState} {a : AbstractState} (v : Valid s) (g : Agrees s a) (i : �
   unfolding light_read_refusal
   light-read-number = ap light_read_number light-read ∙ number_of (abstract_light a i)
 
-  pub enabled-read : is_light_enabled_at s i ≡ is_on (abstract_light a i)
+  pub enabled_read : is_light_enabled_at s i ≡ is_on (abstract_light a i)
   unfolding is_light_enabled_at is_on
-  enabled-read =
+  enabled_read =
       read_is is_on _ _
-      (λ low. on_if (slot_defined s i) (has_bit s.light_enabled i) (off-undefined v i low))
+      (λ low. on_if (slot_defined s i) (has_bit s.light_enabled i) (off_undefined v i low))
       (and_if (found s i).stored (not (eqb (stored_entry s (found s i).at).enabled 0)))
 
-  pub defined-read : is_light_defined_at s i ≡ is_there (abstract_light a i)
+  pub defined_read : is_light_defined_at s i ≡ is_there (abstract_light a i)
   unfolding is_light_defined_at is_there
-  defined-read = read_is is_there _ _ (λ low. is_if (slot_defined s i)) (is_if (found s i).stored)
+  defined_read = read_is is_there _ _ (λ low. is_if (slot_defined s i)) (is_if (found s i).stored)

@@ -19,25 +19,25 @@ use Rattle.ff_state.specs.Valid.{Valid}
 use Rattle.ff_state.specs.declared.state.FfState.{FfState}
 use Rattle.light_table.specs.declared.entry.OverflowLight.{OverflowLight}
 use Rattle.agreement.specs.Agrees.{Agrees, defined_from, slot_defined, slot_entry, overflow_entry, state_lights}
-use Rattle.agreement.proofs.Indices.{lookup-below, beyond_above, beyond_below}
-use Rattle.agreement.proofs.Defined.{defined-below, lookup-defined}
-use Rattle.agreement.proofs.Entries.{entries_above, entries-lookup}
-use Rattle.agreement.proofs.Overflow.{count-used, length-used, entry-used}
+use Rattle.agreement.proofs.Indices.{lookup_below, beyond_above, beyond_below}
+use Rattle.agreement.proofs.Defined.{defined_below, lookup_defined}
+use Rattle.agreement.proofs.Entries.{entries_above, entries_lookup}
+use Rattle.agreement.proofs.Overflow.{count_used, length-used, entry-used}
 
 module _ {s : FfState} (v : Valid s) where
   -- ---- the light of an index
 
-  pub lookup-slot : (i : ℕ) → i < 8 → lookup i (state_lights s) ≡ cond (slot_defined s i) (some (slot_entry s i)) none
+  pub lookup_slot : (i : ℕ) → i < 8 → lookup i (state_lights s) ≡ cond (slot_defined s i) (some (slot_entry s i)) none
   unfolding state_lights
-  lookup-slot i low =
-      lookup-defined (slot_defined s) (slot_entry s) (λ k. refl) (map overflow_entry (used s)) i 0 8 (omega arith) low
+  lookup_slot i low =
+      lookup_defined (slot_defined s) (slot_entry s) (λ k. refl) (map overflow_entry (used s)) i 0 8 (omega arith) low
       (entries_above i 8 (used s) v.overflow.sorted low)
 
-  pub lookup-overflow : (i : ℕ) → 8 ≤ i → lookup i (state_lights s) ≡ cond (found s i).stored (some (overflow_entry (stored_entry s (found s i).at))) none
+  pub lookup_overflow : (i : ℕ) → 8 ≤ i → lookup i (state_lights s) ≡ cond (found s i).stored (some (overflow_entry (stored_entry s (found s i).at))) none
   unfolding state_lights found
-  lookup-overflow i high =
-      lookup-below i (defined_from (slot_defined s) (slot_entry s) 0 8) (map overflow_entry (used s)) (defined-below (slot_defined s) (slot_entry s) (λ k. refl) i 0 8 high)
-      ∙ entries-lookup i 8 (used s) v.overflow.sorted
+  lookup_overflow i high =
+      lookup_below i (defined_from (slot_defined s) (slot_entry s) 0 8) (map overflow_entry (used s)) (defined_below (slot_defined s) (slot_entry s) (λ k. refl) i 0 8 high)
+      ∙ entries_lookup i 8 (used s) v.overflow.sorted
       ∙ go (found s i).stored refl
     where
       go : (t : Bool) → (found s i).stored ≡ t
@@ -45,9 +45,9 @@ module _ {s : FfState} (v : Valid s) where
       go true e = ap (λ (x : OverflowLight). some (overflow_entry x)) (entry-used v i e)
       go false e = refl
 
-  there-overflow : (i : ℕ) → 8 ≤ i → is_there (lookup i (state_lights s)) ≡ (found s i).stored
+  there_overflow : (i : ℕ) → 8 ≤ i → is_there (lookup i (state_lights s)) ≡ (found s i).stored
   unfolding is_there
-  there-overflow i high = ap is_there (lookup-overflow i high) ∙ go (found s i).stored (overflow_entry (stored_entry s (found s i).at))
+  there_overflow i high = ap is_there (lookup_overflow i high) ∙ go (found s i).stored (overflow_entry (stored_entry s (found s i).at))
     where
       go : (t : Bool) (l : AbstractLight) → is_there (cond t (some l) none) ≡ t
       go true l = refl
@@ -55,10 +55,10 @@ module _ {s : FfState} (v : Valid s) where
 
   -- ---- the room that is left
 
-  pub beyond-used : count_beyond (state_lights s) ≡ used_count s.overflow_count
+  pub beyond_used : count_beyond (state_lights s) ≡ used_count s.overflow_count
   unfolding state_lights
-  beyond-used =
-      beyond_below (defined_from (slot_defined s) (slot_entry s) 0 8) (map overflow_entry (used s)) (defined-below (slot_defined s) (slot_entry s) (λ k. refl) 8 0 8 (omega arith))
+  beyond_used =
+      beyond_below (defined_from (slot_defined s) (slot_entry s) 0 8) (map overflow_entry (used s)) (defined_below (slot_defined s) (slot_entry s) (λ k. refl) 8 0 8 (omega arith))
       ∙ beyond_above (map overflow_entry (used s)) (entries_above 7 8 (used s) v.overflow.sorted (omega arith))
       ∙ length-map (used s) overflow_entry
       ∙ length-used v
@@ -84,7 +84,7 @@ light_outcome {s} v i = go (ltb i 8) (ltb (used_count s.overflow_count) 56) (fou
     go false false true p q r = replaced (ltb-false i 8 p) r (has false false true p q r)
     go false true false p q r = inserted (ltb-false i 8 p) r (ltb-true (used_count s.overflow_count) 56 q) (has false true false p q r)
     go false false false p q r =
-        refused (ltb-false i 8 p) r (omega (arith, ltb-false (used_count s.overflow_count) 56 q, count-used v, v.overflow.count)) (has false false false p q r)
+        refused (ltb-false i 8 p) r (omega (arith, ltb-false (used_count s.overflow_count) 56 q, count_used v, v.overflow.count)) (has false false false p q r)
 
 -- the abstract table is full exactly where the state's has no room
 pub full_is : {s : FfState} {a : AbstractState} → Valid s → Agrees s a → (i : ℕ) → full a i ≡ not (has_room s i)
@@ -100,8 +100,8 @@ full_is {s} {a} v g i = rw (← g.lights) (go (light_outcome v i))
 
     go : LightOutcome s i → (leb 8 i && (not (is_there (lookup i (state_lights s))) && eqb (count_beyond (state_lights s)) 56)) ≡ not (has_room s i)
     go (in-slot low r) = terms false _ _ (lt-leb 8 i low) refl refl ∙ sym (ap not r)
-    go (replaced high h r) = terms true true _ (le-leb 8 i high) (there-overflow v i high ∙ h) refl ∙ sym (ap not r)
+    go (replaced high h r) = terms true true _ (le-leb 8 i high) (there_overflow v i high ∙ h) refl ∙ sym (ap not r)
     go (inserted high h m r) =
-        terms true false false (le-leb 8 i high) (there-overflow v i high ∙ h) (ap (λ (k : ℕ). eqb k 56) (beyond-used v) ∙ ne_eqb n 56 (λ e. omega arith)) ∙ sym (ap not r)
+        terms true false false (le-leb 8 i high) (there_overflow v i high ∙ h) (ap (λ (k : ℕ). eqb k 56) (beyond_used v) ∙ ne_eqb n 56 (λ e. omega arith)) ∙ sym (ap not r)
     go (refused high h m r) =
-        terms true false true (le-leb 8 i high) (there-overflow v i high ∙ h) (ap (λ (k : ℕ). eqb k 56) (beyond-used v) ∙ eq-eqb n 56 m) ∙ sym (ap not r)
+        terms true false true (le-leb 8 i high) (there_overflow v i high ∙ h) (ap (λ (k : ℕ). eqb k 56) (beyond_used v) ∙ eq-eqb n 56 m) ∙ sym (ap not r)

@@ -15,7 +15,7 @@ use Rattle.d3d9_types.specs.declared.light.D3DLIGHT9.{D3DLIGHT9}
 use Rattle.words.specs.Bits.{has_bit}
 use Rattle.words.proofs.Words.{has_or}
 use Rattle.sections.specs.Sections.{sections, bit_of, bit_place, has_section}
-use Rattle.sections.proofs.Every.{same-sections}
+use Rattle.sections.proofs.Every.{same_sections}
 use Rattle.sections.specs.declared.sections.Section.{Section}
 use Rattle.sections.specs.declared.sections.Section.TheVariants as Sections
 use Rattle.light_table.specs.Overflow.{used_count}
@@ -53,14 +53,14 @@ added w d bits g e h σ = ap (λ (x : ℕ). has_section x σ) e ∙ has_or w bit
 -- ---- transforms
 
 module _ (i : ℕ) where
-  texture-marks : i < 8 → transform_marks (16 + i) ≡ Sections.Tt ∷ []
+  texture_marks : i < 8 → transform_marks (16 + i) ≡ Sections.Tt ∷ []
   unfolding transform_marks
-  texture-marks h =
+  texture_marks h =
       rw (ne_eqb (16 + i) 2 (λ (q : 16 + i ≡ 2). omega arith), ne_eqb (16 + i) 3 (λ (q : 16 + i ≡ 3). omega arith), le-leb 16 (16 + i) (omega arith), le-leb (16 + i) 23 (omega arith))
 
-  palette-marks : i < 255 → transform_marks (256 + suc i) ≡ Sections.Palette ∷ []
+  palette_marks : i < 255 → transform_marks (256 + suc i) ≡ Sections.Palette ∷ []
   unfolding transform_marks
-  palette-marks h =
+  palette_marks h =
       rw (
         ne_eqb (256 + suc i) 2 (λ (q : 256 + suc i ≡ 2). omega arith),
         ne_eqb (256 + suc i) 3 (λ (q : 256 + suc i ≡ 3). omega arith),
@@ -73,11 +73,11 @@ module _ (i : ℕ) where
 
 place-sections : (p : Place) → InRange p → (σ : Section) → has_section (place_bits p) σ ≡ among (transform_marks (number p)) σ
 unfolding place_sections transform_marks among has_bit
-place-sections View h = same-sections _ _ refl
-place-sections Projection h = same-sections _ _ refl
-place-sections (Texture i) h = rw (texture-marks i h) (same-sections _ _ refl)
-place-sections (Palette zero) h = same-sections _ _ refl
-place-sections (Palette (suc i)) h = rw (palette-marks i (omega arith), eqb-suc-zero i) (same-sections _ _ refl)
+place-sections View h = same_sections _ _ refl
+place-sections Projection h = same_sections _ _ refl
+place-sections (Texture i) h = rw (texture_marks i h) (same_sections _ _ refl)
+place-sections (Palette zero) h = same_sections _ _ refl
+place-sections (Palette (suc i)) h = rw (palette_marks i (omega arith), eqb-suc-zero i) (same_sections _ _ refl)
 
 placed_dirty : (s : FfState) (p : Place) (m : D3DMATRIX) → dirty_word (placed s p m) ≡ dirty_word s
 unfolding placed
@@ -130,7 +130,7 @@ enable_adds s i on =
 one_section : (τ σ : Section) → has_section (bit_of τ) σ ≡ among (τ ∷ []) σ
 unfolding among has_bit
 one_section τ =
-    same-sections _ _ (same-sections (λ τ. map (has_section (bit_of τ)) sections) (λ τ. map (among (τ ∷ [])) sections) refl τ)
+    same_sections _ _ (same_sections (λ τ. map (has_section (bit_of τ)) sections) (λ τ. map (among (τ ∷ [])) sections) refl τ)
 
 section_marks : (s : FfState) (τ σ : Section) → has_section (bit_or (dirty_word s) (bit_of τ)) σ ≡ (has_section (dirty_word s) σ || among (τ ∷ []) σ)
 section_marks s τ = added (dirty_word s) _ (bit_of τ) (among (τ ∷ [])) refl (one_section τ)
@@ -182,7 +182,7 @@ dirty_after {s} v g op σ = dirty_by_number s op σ ∙ ap (λ (n : ℕ). has_se
 -- "A fresh state has zeros and all eight bits": 255
 pub fresh_dirty : (dirty_word fresh_state ≡ 255) × ((σ : Section) → has_section (dirty_word fresh_state) σ ≡ true)
 unfolding fresh_state has_bit
-fresh_dirty = (refl, same-sections _ (λ σ. true) refl)
+fresh_dirty = (refl, same_sections _ (λ σ. true) refl)
 
 -- take answers the word and leaves none
 pub taken_word : (s : FfState) → ((take_ff_vs_dirty s).bits ≡ dirty_word s) × (dirty_word (take_ff_vs_dirty s).state ≡ 0)

@@ -15,9 +15,9 @@ use Rattle.agreement.specs.Agrees.{Agrees, state_lights}
 use Rattle.agreement.proofs.Dirty.{dirtied_valid, dirtied_agrees}
 
 module _ {s : FfState} (m : D3DMATERIAL9) where
-  pub material-valid : materialFits m → Valid s → Valid (set_material s m)
+  pub material_valid : materialFits m → Valid s → Valid (set_material s m)
   unfolding set_material
-  material-valid h v =
+  material_valid h v =
       dirtied_valid (bit_of Sections.Material) (omega arith)
       (record {
         palette_length = v.palette_length;
@@ -42,8 +42,8 @@ module _ {s : FfState} (m : D3DMATERIAL9) where
             };
       })
 
-  pub material-agrees : {a : AbstractState} → Agrees s a → Agrees (set_material s m) (abstract_step a (Operations.set_material m))
+  pub material_agrees : {a : AbstractState} → Agrees s a → Agrees (set_material s m) (abstract_step a (Operations.set_material m))
   unfolding set_material state_lights abstract_step abstract_refusal abstract_change
-  material-agrees g =
+  material_agrees g =
       dirtied_agrees (bit_of Sections.Material)
       (record { matrices = g.matrices; material = refl; lights = g.lights; highest = g.highest; states = g.states; texture-mask = g.texture-mask })

@@ -17,8 +17,8 @@ use Rattle.ff_state.specs.Lights.{found, stored_entry}
 use Rattle.ff_state.specs.Valid.{Valid, OverflowValid}
 use Rattle.ff_state.specs.declared.state.FfState.{FfState}
 use Rattle.light_table.specs.declared.entry.OverflowLight.{OverflowLight}
-use Rattle.light_table.proofs.Sorted.{bound_most, stored-below, stored-index, length_inserted, put_in, replaced_ascending, inserted_ascending, inserted-used, inserted-zeros}
-use Rattle.lemmas.proofs.Lists.{set-has, put_has}
+use Rattle.light_table.proofs.Sorted.{bound_most, stored_below, stored_index, length_inserted, put_in, replaced_ascending, inserted_ascending, inserted_used, inserted_zeros}
+use Rattle.lemmas.proofs.Lists.{set_has, put_has}
 
 -- what a program can hold of an entry
 pub record EntryValid (e : OverflowLight) : Type 0 where
@@ -38,9 +38,9 @@ found_entry s i = stored_entry s (found s i).at
 
 module _ {s : FfState} (v : Valid s) where
   -- a valid state, with another table
-  table-valid : {es : List OverflowLight} {n : ℕ} → length es ≡ 56 → ((k : ℕ) → k < 56 → lightFits (get_or es k zero_entry).light)
+  table_valid : {es : List OverflowLight} {n : ℕ} → length es ≡ 56 → ((k : ℕ) → k < 56 → lightFits (get_or es k zero_entry).light)
       → OverflowValid es n → Valid (with_overflow_count (with_overflow_lights s es) n)
-  table-valid long fits h =
+  table_valid long fits h =
       record {
         palette_length = v.palette_length;
         texture_length = v.texture_length;
@@ -64,34 +64,34 @@ module _ {s : FfState} (v : Valid s) where
             };
       }
 
-  pub count-used : used_count s.overflow_count ≡ s.overflow_count
+  pub count_used : used_count s.overflow_count ≡ s.overflow_count
   unfolding used_count
-  count-used = min-eq_left v.overflow.count
+  count_used = min-eq_left v.overflow.count
 
   pub length-used : length (used s) ≡ used_count s.overflow_count
-  length-used = length-take-le (used_count s.overflow_count) s.overflow_lights (omega (arith, count-used, v.overflow_length, v.overflow.count))
+  length-used = length-take-le (used_count s.overflow_count) s.overflow_lights (omega (arith, count_used, v.overflow_length, v.overflow.count))
 
   -- ---- the place of an index, and the entry there
 
-  pub place-most : (i : ℕ) → (found s i).at ≤ used_count s.overflow_count
+  pub place_most : (i : ℕ) → (found s i).at ≤ used_count s.overflow_count
   unfolding found find_entry
-  place-most i = omega (arith, bound_most (used s) i, length-used)
+  place_most i = omega (arith, bound_most (used s) i, length-used)
 
   module _ (i : ℕ) (stored : (found s i).stored ≡ true) where
-    pub place-used : (found s i).at < used_count s.overflow_count
+    pub place_used : (found s i).at < used_count s.overflow_count
     unfolding found
-    place-used = omega (arith, stored-below (used s) i stored, length-used)
+    place_used = omega (arith, stored_below (used s) i stored, length-used)
 
     pub entry-used : get_or (used s) (found s i).at zero_entry ≡ found_entry s i
-    entry-used = get_or-take (used_count s.overflow_count) s.overflow_lights (found s i).at zero_entry place-used
+    entry-used = get_or-take (used_count s.overflow_count) s.overflow_lights (found s i).at zero_entry place_used
 
-    pub entry-index : (found_entry s i).index ≡ i
+    pub entry_index : (found_entry s i).index ≡ i
     unfolding found
-    entry-index = ap (λ (e : OverflowLight). e.index) (sym entry-used) ∙ stored-index (used s) i stored
+    entry_index = ap (λ (e : OverflowLight). e.index) (sym entry-used) ∙ stored_index (used s) i stored
 
-    pub entry-fits : EntryValid (found_entry s i)
-    entry-fits =
-        let h : (found s i).at < s.overflow_count = omega (arith, place-used, count-used) in
+    pub entry_fits : EntryValid (found_entry s i)
+    entry_fits =
+        let h : (found s i).at < s.overflow_count = omega (arith, place_used, count_used) in
         record {
           index = v.overflow.indices (found s i).at h;
           enabled = v.overflow.flags (found s i).at h;
@@ -102,44 +102,44 @@ module _ {s : FfState} (v : Valid s) where
     -- ---- the entry of a stored index
 
     module _ (stored : (found s i).stored ≡ true) where
-      pub replaced-used : used (with_entry s i e) ≡ set (used s) (found s i).at e
-      replaced-used = take-set-lt (used_count s.overflow_count) s.overflow_lights (found s i).at e (place-used i stored)
+      pub replaced_used : used (with_entry s i e) ≡ set (used s) (found s i).at e
+      replaced_used = take-set-lt (used_count s.overflow_count) s.overflow_lights (found s i).at e (place_used i stored)
 
-      replaced-sorted : ascending 8 (used (with_entry s i e)) ≡ true
+      replaced_sorted : ascending 8 (used (with_entry s i e)) ≡ true
       unfolding found
-      replaced-sorted = ap (ascending 8) replaced-used ∙ replaced_ascending 8 (used s) i e own stored ∙ v.overflow.sorted
+      replaced_sorted = ap (ascending 8) replaced_used ∙ replaced_ascending 8 (used s) i e own stored ∙ v.overflow.sorted
 
-      pub replaced-valid : Valid (with_entry s i e)
-      replaced-valid =
+      pub replaced_valid : Valid (with_entry s i e)
+      replaced_valid =
           let es = s.overflow_lights in
           let at = (found s i).at in
           let o = v.overflow in
-          let h : at < length es = omega (arith, place-used i stored, count-used, o.count, v.overflow_length) in
-          table-valid (length-set es at e ∙ v.overflow_length)
-          (λ k g. set-has es at e zero_entry h (λ x. lightFits x.light) fits.light k (v.floats.overflow k g))
+          let h : at < length es = omega (arith, place_used i stored, count_used, o.count, v.overflow_length) in
+          table_valid (length-set es at e ∙ v.overflow_length)
+          (λ k g. set_has es at e zero_entry h (λ x. lightFits x.light) fits.light k (v.floats.overflow k g))
           (record {
             count = o.count;
-            sorted = replaced-sorted;
-            flags = λ k g. set-has es at e zero_entry h (λ x. x.enabled ≤ 1) fits.enabled k (o.flags k g);
-            indices = λ k g. set-has es at e zero_entry h (λ x. x.index < 0x1_0000_0000) fits.index k (o.indices k g);
-            unused = drop-set-lt s.overflow_count es at e (omega (arith, place-used i stored, count-used)) ∙ o.unused;
+            sorted = replaced_sorted;
+            flags = λ k g. set_has es at e zero_entry h (λ x. x.enabled ≤ 1) fits.enabled k (o.flags k g);
+            indices = λ k g. set_has es at e zero_entry h (λ x. x.index < 0x1_0000_0000) fits.index k (o.indices k g);
+            unused = drop-set-lt s.overflow_count es at e (omega (arith, place_used i stored, count_used)) ∙ o.unused;
           })
 
     -- ---- one entry more
 
     module _ (absent : (found s i).stored ≡ false) (beyond : 8 ≤ i) (room : used_count s.overflow_count < 56) where
-      new-count : used_count (used_count s.overflow_count + 1) ≡ suc (used_count s.overflow_count)
+      new_count : used_count (used_count s.overflow_count + 1) ≡ suc (used_count s.overflow_count)
       unfolding used_count
-      new-count = min-eq_left (omega arith) ∙ add-one (used_count s.overflow_count)
+      new_count = min-eq_left (omega arith) ∙ add-one (used_count s.overflow_count)
 
-      pub inserted-is : used (with_new_entry s i e) ≡ put_in (found s i).at e (used s)
-      inserted-is =
-          ap (λ (k : ℕ). take k (inserted_at (found s i).at e s.overflow_lights)) new-count
-          ∙ inserted-used s.overflow_lights (used_count s.overflow_count) (found s i).at e v.overflow_length room (place-most i)
+      pub inserted_is : used (with_new_entry s i e) ≡ put_in (found s i).at e (used s)
+      inserted_is =
+          ap (λ (k : ℕ). take k (inserted_at (found s i).at e s.overflow_lights)) new_count
+          ∙ inserted_used s.overflow_lights (used_count s.overflow_count) (found s i).at e v.overflow_length room (place_most i)
 
-      inserted-sorted : ascending 8 (used (with_new_entry s i e)) ≡ true
+      inserted_sorted : ascending 8 (used (with_new_entry s i e)) ≡ true
       unfolding found find_entry
-      inserted-sorted = ap (ascending 8) inserted-is ∙ inserted_ascending 8 (used s) i e own beyond v.overflow.sorted absent
+      inserted_sorted = ap (ascending 8) inserted_is ∙ inserted_ascending 8 (used s) i e own beyond v.overflow.sorted absent
 
       -- of the first n entries and the one put in
       each : (P : OverflowLight → Type 0) → P e → (n : ℕ) → n < 56 → (found s i).at ≤ n → ((k : ℕ) → k < n → P (get_or s.overflow_lights k zero_entry))
@@ -148,27 +148,27 @@ module _ {s : FfState} (v : Valid s) where
       each P p n few within old =
           put_has P zero_entry e (55 - (found s i).at) p s.overflow_lights (found s i).at n (omega (arith, v.overflow_length)) within (omega arith) old
 
-      inserted-unused : drop (used_count s.overflow_count + 1) (inserted_at (found s i).at e s.overflow_lights) ≡ replicate (56 - (used_count s.overflow_count + 1)) zero_entry
-      inserted-unused =
+      inserted_unused : drop (used_count s.overflow_count + 1) (inserted_at (found s i).at e s.overflow_lights) ≡ replicate (56 - (used_count s.overflow_count + 1)) zero_entry
+      inserted_unused =
           let n = used_count s.overflow_count in
           let c : 55 - used_count s.overflow_count ≡ 56 - (used_count s.overflow_count + 1) = omega arith in
           ap (λ (k : ℕ). drop k (inserted_at (found s i).at e s.overflow_lights)) (add-one n)
-          ∙ inserted-zeros s.overflow_lights n (found s i).at e v.overflow_length room (place-most i)
-          (ap (λ (k : ℕ). drop k s.overflow_lights) count-used ∙ v.overflow.unused ∙ ap (λ (k : ℕ). replicate (56 - k) zero_entry) (sym count-used))
+          ∙ inserted_zeros s.overflow_lights n (found s i).at e v.overflow_length room (place_most i)
+          (ap (λ (k : ℕ). drop k s.overflow_lights) count_used ∙ v.overflow.unused ∙ ap (λ (k : ℕ). replicate (56 - k) zero_entry) (sym count_used))
           ∙ ap (λ (k : ℕ). replicate k zero_entry) c
 
-      pub inserted-valid : Valid (with_new_entry s i e)
-      inserted-valid =
+      pub inserted_valid : Valid (with_new_entry s i e)
+      inserted_valid =
           let es = s.overflow_lights in
           let at = (found s i).at in
           let n = used_count s.overflow_count in
           let o = v.overflow in
-          table-valid (length_inserted es v.overflow_length at e (omega (arith, place-most i)))
-          (λ k g. each (λ x. lightFits x.light) fits.light 55 (omega arith) (omega (arith, place-most i)) (λ j q. v.floats.overflow j (omega arith)) k g)
+          table_valid (length_inserted es v.overflow_length at e (omega (arith, place_most i)))
+          (λ k g. each (λ x. lightFits x.light) fits.light 55 (omega arith) (omega (arith, place_most i)) (λ j q. v.floats.overflow j (omega arith)) k g)
           (record {
             count = omega arith;
-            sorted = inserted-sorted;
-            flags = λ k g. each (λ x. x.enabled ≤ 1) fits.enabled n room (place-most i) (λ j q. o.flags j (omega (arith, count-used))) k (omega arith);
-            indices = λ k g. each (λ x. x.index < 0x1_0000_0000) fits.index n room (place-most i) (λ j q. o.indices j (omega (arith, count-used))) k (omega arith);
-            unused = inserted-unused;
+            sorted = inserted_sorted;
+            flags = λ k g. each (λ x. x.enabled ≤ 1) fits.enabled n room (place_most i) (λ j q. o.flags j (omega (arith, count_used))) k (omega arith);
+            indices = λ k g. each (λ x. x.index < 0x1_0000_0000) fits.index n room (place_most i) (λ j q. o.indices j (omega (arith, count_used))) k (omega arith);
+            unused = inserted_unused;
           })

@@ -14,7 +14,7 @@ use Rattle.ff_state.specs.declared.transforms.Place.{Place}
 use Rattle.ff_state.specs.declared.transforms.Slot.{Slot}
 use Rattle.ff_state.specs.declared.transforms.Slot.TheVariants.{At, Unknown}
 use Rattle.ff_state.proofs.Marking.{by_mark}
-use Rattle.ff_state.proofs.Room.{room_refusal, set-answer, set-refused, enable-answer, enable-refused}
+use Rattle.ff_state.proofs.Room.{room_refusal, set-answer, set-refused, enable_answer, enable_refused}
 use Rattle.ff_state.specs.Operate.{operate}
 
 -- an answer other than 0
@@ -43,7 +43,7 @@ refused_same s (set_transform n m) h = transform_same s (Transforms.slot_of n) _
 refused_same s (multiply_transform n m) h = transform_same s (Transforms.slot_of n) _ h
 refused_same s (set_material m) h = absurd (h refl)
 refused_same s (set_light i l) h = light_same s i (set_light_at s i l) (set-answer s i l) (set-refused s i l) h
-refused_same s (enable_light i on) h = light_same s i (set_light_enabled_at s i on) (enable-answer s i on) (enable-refused s i on) h
+refused_same s (enable_light i on) h = light_same s i (set_light_enabled_at s i on) (enable_answer s i on) (enable_refused s i on) h
 refused_same s (set_fog_start x) h = absurd (h refl)
 refused_same s (set_fog_end x) h = absurd (h refl)
 refused_same s (set_fog_density x) h = absurd (h refl)

@@ -21,7 +21,7 @@ use Rattle.ff_state.specs.declared.state.FfState.{FfState}
 use Rattle.words.proofs.Words.{has_with_bit}
 use Rattle.agreement.specs.Agrees.{Agrees, slot_defined, slot_entry, overflow_entry, state_lights}
 use Rattle.lemmas.proofs.Lists.{get_d_set}
-use Rattle.agreement.proofs.Defined.{changed-defined}
+use Rattle.agreement.proofs.Defined.{changed_defined}
 use Rattle.agreement.proofs.Entries.{entries_above}
 
 -- what has a value at i may be said to have been given it
@@ -48,7 +48,7 @@ module _ {s : FfState} (v : Valid s) (u : FfState) (i : ℕ) (low : i < 8) (on :
   slot_changed change new is =
       rw others
       (sym
-      (changed-defined (slot_defined s) (slot_defined u) (slot_entry s) (slot_entry u) (λ k. refl) i change new
+      (changed_defined (slot_defined s) (slot_defined u) (slot_entry s) (slot_entry u) (λ k. refl) i change new
       (elsewhere (slot_defined u) (slot_defined s) i true defined)
       (λ k ne. ap₂ (indexed_light k) (elsewhere (has_bit u.light_enabled) (has_bit s.light_enabled) i on enabled k ne) (elsewhere (slot_light u) (slot_light s) i l light k ne))
       (there (slot_defined u) (slot_defined s) i true defined)
@@ -61,16 +61,16 @@ module _ {s : FfState} (v : Valid s) (i : ℕ) (low : i < 8) where
   inside = omega (arith, v.lights_length)
 
   -- no slot is on that is not defined
-  pub off-undefined : has_bit s.light_defined_mask i ≡ false → has_bit s.light_enabled i ≡ false
-  off-undefined h = go (has_bit s.light_enabled i) refl
+  pub off_undefined : has_bit s.light_defined_mask i ≡ false → has_bit s.light_enabled i ≡ false
+  off_undefined h = go (has_bit s.light_enabled i) refl
     where
       go : (t : Bool) → has_bit s.light_enabled i ≡ t → t ≡ false
       go true e = absurd (true≢false (sym (v.slots.enabled_defined i low e) ∙ h))
       go false e = refl
 
-  set-slot-lights : (l : D3DLIGHT9) → state_lights (set_slot s i l) ≡ light_set i l (state_lights s)
+  set_slot_lights : (l : D3DLIGHT9) → state_lights (set_slot s i l) ≡ light_set i l (state_lights s)
   unfolding set_slot light_set
-  set-slot-lights l =
+  set_slot_lights l =
       slot_changed v (set_slot s i l) i low (has_bit s.light_enabled i) l
       (λ k. has_with_bit s.light_defined_mask i k true)
       (given_at (has_bit s.light_enabled) i (has_bit s.light_enabled i) refl)
@@ -79,11 +79,11 @@ module _ {s : FfState} (v : Valid s) (i : ℕ) (low : i < 8) where
       (λ e. indexed_light i e.enabled l) (indexed_light i false l)
       (branch (λ (x : AbstractLight). indexed_light i (has_bit s.light_enabled i) l ≡ x) (has_bit s.light_defined_mask i) _ _
       (λ t. refl)
-      (λ (t : has_bit s.light_defined_mask i ≡ false). ap (λ (b : Bool). indexed_light i b l) (off-undefined t)))
+      (λ (t : has_bit s.light_defined_mask i ≡ false). ap (λ (b : Bool). indexed_light i b l) (off_undefined t)))
 
-  defined-lights : (on : Bool) → has_bit s.light_defined_mask i ≡ true → state_lights (with_light_enabled s (with_bit s.light_enabled i on)) ≡ light_enabled i on (state_lights s)
+  defined_lights : (on : Bool) → has_bit s.light_defined_mask i ≡ true → state_lights (with_light_enabled s (with_bit s.light_enabled i on)) ≡ light_enabled i on (state_lights s)
   unfolding light_enabled
-  defined-lights on e =
+  defined_lights on e =
       slot_changed v (with_light_enabled s (with_bit s.light_enabled i on)) i low on (slot_light s i)
       (given_at (has_bit s.light_defined_mask) i true e)
       (λ k. has_with_bit s.light_enabled i k on)
@@ -91,10 +91,10 @@ module _ {s : FfState} (v : Valid s) (i : ℕ) (low : i < 8) where
       refl
       (λ x. indexed_light i on x.light) (indexed_light i on default_light) (rw e)
 
-  undefined-lights : (on : Bool) → has_bit s.light_defined_mask i ≡ false
+  undefined_lights : (on : Bool) → has_bit s.light_defined_mask i ≡ false
       → state_lights (with_light_enabled (set_slot s i default_light) (with_bit s.light_enabled i on)) ≡ light_enabled i on (state_lights s)
   unfolding set_slot light_enabled
-  undefined-lights on e =
+  undefined_lights on e =
       slot_changed v (with_light_enabled (set_slot s i default_light) (with_bit s.light_enabled i on)) i low on default_light
       (λ k. has_with_bit s.light_defined_mask i k true)
       (λ k. has_with_bit s.light_enabled i k on)
@@ -103,14 +103,14 @@ module _ {s : FfState} (v : Valid s) (i : ℕ) (low : i < 8) where
       (λ x. indexed_light i on x.light) (indexed_light i on default_light) (rw e)
 
   module _ {a : AbstractState} (g : Agrees s a) where
-    pub set-slot-agrees : (l : D3DLIGHT9) → Agrees (set_slot s i l) (replaced_lights a (light_set i l a.lights))
+    pub set_slot_agrees : (l : D3DLIGHT9) → Agrees (set_slot s i l) (replaced_lights a (light_set i l a.lights))
     unfolding set_slot
-    set-slot-agrees l = record { matrices = g.matrices; material = g.material; lights = set-slot-lights l ∙ ap (light_set i l) g.lights; highest = g.highest; states = g.states; texture-mask = g.texture-mask }
+    set_slot_agrees l = record { matrices = g.matrices; material = g.material; lights = set_slot_lights l ∙ ap (light_set i l) g.lights; highest = g.highest; states = g.states; texture-mask = g.texture-mask }
 
-    pub enable-slot-agrees : (on : Bool) → Agrees (enable_slot s i on) (replaced_lights a (light_enabled i on a.lights))
+    pub enable_slot_agrees : (on : Bool) → Agrees (enable_slot s i on) (replaced_lights a (light_enabled i on a.lights))
     unfolding enable_slot define_slot set_slot
-    enable-slot-agrees on =
+    enable_slot_agrees on =
         branch (λ (t : FfState). Agrees (with_light_enabled t (with_bit t.light_enabled i on)) (replaced_lights a (light_enabled i on a.lights)))
         (has_bit s.light_defined_mask i) s (set_slot s i default_light)
-        (λ e. record { matrices = g.matrices; material = g.material; lights = defined-lights on e ∙ ap (light_enabled i on) g.lights; highest = g.highest; states = g.states; texture-mask = g.texture-mask })
-        (λ e. record { matrices = g.matrices; material = g.material; lights = undefined-lights on e ∙ ap (light_enabled i on) g.lights; highest = g.highest; states = g.states; texture-mask = g.texture-mask })
+        (λ e. record { matrices = g.matrices; material = g.material; lights = defined_lights on e ∙ ap (light_enabled i on) g.lights; highest = g.highest; states = g.states; texture-mask = g.texture-mask })
+        (λ e. record { matrices = g.matrices; material = g.material; lights = undefined_lights on e ∙ ap (light_enabled i on) g.lights; highest = g.highest; states = g.states; texture-mask = g.texture-mask })

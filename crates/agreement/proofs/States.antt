@@ -26,8 +26,8 @@ bit_small : (σ : Section) → bit_of σ ≤ all_bits
 bit_small σ = leb→le (bit_of σ) all_bits (each (λ τ. leb (bit_of τ) all_bits) tt σ)
 
 module _ {s : FfState} where
-  states-valid : (r : RenderStates) (σ : Section) → statesFit r → Valid s → Valid (dirtied (with_render_states s r) (bit_of σ))
-  states-valid r σ h v =
+  states_valid : (r : RenderStates) (σ : Section) → statesFit r → Valid s → Valid (dirtied (with_render_states s r) (bit_of σ))
+  states_valid r σ h v =
       dirtied_valid (bit_of σ) (bit_small σ)
       (record {
         palette_length = v.palette_length;
@@ -43,47 +43,47 @@ module _ {s : FfState} where
         floats = v.floats;
       })
 
-  states-agree : {a : AbstractState} (r q : RenderStates) (σ : Section) → r ≡ q → Agrees s a → Agrees (dirtied (with_render_states s r) (bit_of σ)) (replaced_states a q)
+  states_agree : {a : AbstractState} (r q : RenderStates) (σ : Section) → r ≡ q → Agrees s a → Agrees (dirtied (with_render_states s r) (bit_of σ)) (replaced_states a q)
   unfolding state_lights
-  states-agree r q σ e g =
+  states_agree r q σ e g =
       dirtied_agrees (bit_of σ)
       (record { matrices = g.matrices; material = g.material; lights = g.lights; highest = g.highest; states = e; texture-mask = g.texture-mask })
 
-  pub fog-start-valid : (x : Float) → float_fits x → Valid s → Valid (set_fog_start s x)
+  pub fog_start_valid : (x : Float) → float_fits x → Valid s → Valid (set_fog_start s x)
   unfolding set_fog_start
-  fog-start-valid x h v = states-valid (with_fog_start s.render_states x) Sections.Fog (record { fog_start = h; fog_end = v.states.fog_end; fog_density = v.states.fog_density; ambient = v.states.ambient }) v
+  fog_start_valid x h v = states_valid (with_fog_start s.render_states x) Sections.Fog (record { fog_start = h; fog_end = v.states.fog_end; fog_density = v.states.fog_density; ambient = v.states.ambient }) v
 
-  pub fog-start-agrees : {a : AbstractState} (x : Float) → Agrees s a → Agrees (set_fog_start s x) (abstract_step a (Operations.set_fog_start x))
+  pub fog_start_agrees : {a : AbstractState} (x : Float) → Agrees s a → Agrees (set_fog_start s x) (abstract_step a (Operations.set_fog_start x))
   unfolding set_fog_start abstract_step abstract_refusal abstract_change
-  fog-start-agrees x g = states-agree _ _ Sections.Fog (ap (λ (r : RenderStates). with_fog_start r x) g.states) g
+  fog_start_agrees x g = states_agree _ _ Sections.Fog (ap (λ (r : RenderStates). with_fog_start r x) g.states) g
 
-  pub fog-end-valid : (x : Float) → float_fits x → Valid s → Valid (set_fog_end s x)
+  pub fog_end_valid : (x : Float) → float_fits x → Valid s → Valid (set_fog_end s x)
   unfolding set_fog_end
-  fog-end-valid x h v = states-valid (with_fog_end s.render_states x) Sections.Fog (record { fog_start = v.states.fog_start; fog_end = h; fog_density = v.states.fog_density; ambient = v.states.ambient }) v
+  fog_end_valid x h v = states_valid (with_fog_end s.render_states x) Sections.Fog (record { fog_start = v.states.fog_start; fog_end = h; fog_density = v.states.fog_density; ambient = v.states.ambient }) v
 
-  pub fog-end-agrees : {a : AbstractState} (x : Float) → Agrees s a → Agrees (set_fog_end s x) (abstract_step a (Operations.set_fog_end x))
+  pub fog_end_agrees : {a : AbstractState} (x : Float) → Agrees s a → Agrees (set_fog_end s x) (abstract_step a (Operations.set_fog_end x))
   unfolding set_fog_end abstract_step abstract_refusal abstract_change
-  fog-end-agrees x g = states-agree _ _ Sections.Fog (ap (λ (r : RenderStates). with_fog_end r x) g.states) g
+  fog_end_agrees x g = states_agree _ _ Sections.Fog (ap (λ (r : RenderStates). with_fog_end r x) g.states) g
 
-  pub fog-density-valid : (x : Float) → float_fits x → Valid s → Valid (set_fog_density s x)
+  pub fog_density_valid : (x : Float) → float_fits x → Valid s → Valid (set_fog_density s x)
   unfolding set_fog_density
-  fog-density-valid x h v = states-valid (with_fog_density s.render_states x) Sections.Fog (record { fog_start = v.states.fog_start; fog_end = v.states.fog_end; fog_density = h; ambient = v.states.ambient }) v
+  fog_density_valid x h v = states_valid (with_fog_density s.render_states x) Sections.Fog (record { fog_start = v.states.fog_start; fog_end = v.states.fog_end; fog_density = h; ambient = v.states.ambient }) v
 
-  pub fog-density-agrees : {a : AbstractState} (x : Float) → Agrees s a → Agrees (set_fog_density s x) (abstract_step a (Operations.set_fog_density x))
+  pub fog_density_agrees : {a : AbstractState} (x : Float) → Agrees s a → Agrees (set_fog_density s x) (abstract_step a (Operations.set_fog_density x))
   unfolding set_fog_density abstract_step abstract_refusal abstract_change
-  fog-density-agrees x g = states-agree _ _ Sections.Fog (ap (λ (r : RenderStates). with_fog_density r x) g.states) g
+  fog_density_agrees x g = states_agree _ _ Sections.Fog (ap (λ (r : RenderStates). with_fog_density r x) g.states) g
 
-  pub ambient-valid : (x : ℕ) → x < 0x1_0000_0000 → Valid s → Valid (set_ambient s x)
+  pub ambient_valid : (x : ℕ) → x < 0x1_0000_0000 → Valid s → Valid (set_ambient s x)
   unfolding set_ambient
-  ambient-valid x h v = states-valid (with_ambient s.render_states x) Sections.Ambient (record { fog_start = v.states.fog_start; fog_end = v.states.fog_end; fog_density = v.states.fog_density; ambient = h }) v
+  ambient_valid x h v = states_valid (with_ambient s.render_states x) Sections.Ambient (record { fog_start = v.states.fog_start; fog_end = v.states.fog_end; fog_density = v.states.fog_density; ambient = h }) v
 
-  pub ambient-agrees : {a : AbstractState} (x : ℕ) → Agrees s a → Agrees (set_ambient s x) (abstract_step a (Operations.set_ambient x))
+  pub ambient_agrees : {a : AbstractState} (x : ℕ) → Agrees s a → Agrees (set_ambient s x) (abstract_step a (Operations.set_ambient x))
   unfolding set_ambient abstract_step abstract_refusal abstract_change
-  ambient-agrees x g = states-agree _ _ Sections.Ambient (ap (λ (r : RenderStates). with_ambient r x) g.states) g
+  ambient_agrees x g = states_agree _ _ Sections.Ambient (ap (λ (r : RenderStates). with_ambient r x) g.states) g
 
-  pub mask-valid : (t : ℕ) → t < 256 → Valid s → Valid (set_texture_mask s t)
+  pub mask_valid : (t : ℕ) → t < 256 → Valid s → Valid (set_texture_mask s t)
   unfolding set_texture_mask
-  mask-valid t h v =
+  mask_valid t h v =
       dirtied_valid (bit_of Sections.Tt) (bit_small Sections.Tt)
       (record {
         palette_length = v.palette_length;
@@ -99,8 +99,8 @@ module _ {s : FfState} where
         floats = v.floats;
       })
 
-  pub mask-agrees : {a : AbstractState} (t : ℕ) → Agrees s a → Agrees (set_texture_mask s t) (abstract_step a (Operations.set_texture_mask t))
+  pub mask_agrees : {a : AbstractState} (t : ℕ) → Agrees s a → Agrees (set_texture_mask s t) (abstract_step a (Operations.set_texture_mask t))
   unfolding set_texture_mask state_lights abstract_step abstract_refusal abstract_change
-  mask-agrees t g =
+  mask_agrees t g =
       dirtied_agrees (bit_of Sections.Tt)
       (record { matrices = g.matrices; material = g.material; lights = g.lights; highest = g.highest; states = g.states; texture-mask = refl })

@@ -15,7 +15,7 @@ use Rattle.ff_state.specs.Valid.{Valid}
 use Rattle.ff_state.specs.declared.state.FfState.{FfState}
 use Rattle.ff_state.specs.declared.transforms.TransformRead.TheVariants.{Matrix, UnknownState}
 use Rattle.agreement.specs.Agrees.{Agrees}
-use Rattle.agreement.proofs.Transforms.{transform-read}
+use Rattle.agreement.proofs.Transforms.{transform_read}
 
 number_if : (t : Bool) (m : D3DMATRIX) → transform_read_number (cond t (Matrix m) UnknownState) ≡ cond t 0 1
 unfolding transform_read_number
@@ -30,21 +30,21 @@ matrix_if false m = refl
 module _ {s : FfState} {a : AbstractState} (v : Valid s) (g : Agrees s a) where
   pub transform-read-number : (n : ℕ) → transform_read_number (transform_of s n) ≡ transform_read_refusal n
   unfolding transform_read_refusal
-  transform-read-number n = ap transform_read_number (transform-read v g n) ∙ number_if (known n) (a.matrix n)
+  transform-read-number n = ap transform_read_number (transform_read v g n) ∙ number_if (known n) (a.matrix n)
 
   pub transform-read-matrix : (n : ℕ) → transform_read_matrix (transform_of s n) ≡ abstract_read_matrix a n
   unfolding abstract_read_matrix
-  transform-read-matrix n = ap transform_read_matrix (transform-read v g n) ∙ matrix_if (known n) (a.matrix n)
+  transform-read-matrix n = ap transform_read_matrix (transform_read v g n) ∙ matrix_if (known n) (a.matrix n)
 
-  pub palette-used-agrees : world_palette_used s ≡ abstract_palette_used a
+  pub palette_used_agrees : world_palette_used s ≡ abstract_palette_used a
   unfolding world_palette_used abstract_palette_used
-  palette-used-agrees = rw g.highest
+  palette_used_agrees = rw g.highest
 
   -- 1 to 256, so that a u16 holds it
-  pub palette-used-range : (1 ≤ world_palette_used s) × (world_palette_used s ≤ 256)
+  pub palette_used_range : (1 ≤ world_palette_used s) × (world_palette_used s ≤ 256)
   unfolding world_palette_used
-  palette-used-range = (omega arith, omega (arith, v.high_water))
+  palette_used_range = (omega arith, omega (arith, v.high_water))
 
-  pub world-view-projection-agrees : world_view_projection s ≡ abstract_world_view_projection a
+  pub world_view_projection_agrees : world_view_projection s ≡ abstract_world_view_projection a
   unfolding world_view_projection abstract_world_view_projection
-  world-view-projection-agrees = ap₂ mat_mul (ap₂ mat_mul (g.matrices.palette 0 (omega arith)) g.matrices.view) g.matrices.projection
+  world_view_projection_agrees = ap₂ mat_mul (ap₂ mat_mul (g.matrices.palette 0 (omega arith)) g.matrices.view) g.matrices.projection

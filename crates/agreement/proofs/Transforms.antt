@@ -27,17 +27,17 @@ use Rattle.ff_state.specs.declared.transforms.Place.TheVariants.{View, Projectio
 use Rattle.ff_state.specs.declared.transforms.TransformRead.TheVariants as Reads
 use Rattle.agreement.specs.Agrees.{Agrees, state_lights}
 use Rattle.agreement.proofs.Dirty.{dirtied_valid, dirtied_agrees}
-use Rattle.lemmas.proofs.Lists.{get_d_set, set-has}
+use Rattle.lemmas.proofs.Lists.{get_d_set, set_has}
 use Rattle.agreement.proofs.Numbers.{number, Named, place, no_place, named}
 
 -- ---- a matrix stored at a place
 
 module _ {s : FfState} (v : Valid s) where
   -- a valid state, with other matrices
-  stored-valid : {p q : D3DMATRIX} {ps ts : List D3DMATRIX} {hw : ℕ} → length ps ≡ 256 → length ts ≡ 8 → hw ≤ 255 → matrixFits p → matrixFits q
+  stored_valid : {p q : D3DMATRIX} {ps ts : List D3DMATRIX} {hw : ℕ} → length ps ≡ 256 → length ts ≡ 8 → hw ≤ 255 → matrixFits p → matrixFits q
       → ((i : ℕ) → i < 256 → matrixFits (get_or ps i no_matrix)) → ((i : ℕ) → i < 8 → matrixFits (get_or ts i no_matrix))
       → Valid (with_view (with_projection (with_world_palette_high_water (with_world_palette (with_texture_transforms s ts) ps) hw) q) p)
-  stored-valid lp lt lh fp fq fps fts =
+  stored_valid lp lt lh fp fq fps fts =
       record {
         palette_length = lp;
         texture_length = lt;
@@ -61,16 +61,16 @@ module _ {s : FfState} (v : Valid s) where
             };
       }
 
-  placed-valid : (p : Place) (m : D3DMATRIX) → InRange p → matrixFits m → Valid (placed s p m)
+  placed_valid : (p : Place) (m : D3DMATRIX) → InRange p → matrixFits m → Valid (placed s p m)
   unfolding placed
-  placed-valid View m h f = stored-valid v.palette_length v.texture_length v.high_water f v.floats.projection v.floats.palette v.floats.texture
-  placed-valid Projection m h f = stored-valid v.palette_length v.texture_length v.high_water v.floats.view f v.floats.palette v.floats.texture
-  placed-valid (Texture i) m h f =
-      stored-valid v.palette_length (length-set s.texture_transforms i m ∙ v.texture_length) v.high_water v.floats.view v.floats.projection v.floats.palette
-      (λ j g. set-has s.texture_transforms i m no_matrix (omega (arith, v.texture_length)) matrixFits f j (v.floats.texture j g))
-  placed-valid (Palette i) m h f =
-      stored-valid (length-set s.world_palette i m ∙ v.palette_length) v.texture_length (max-le v.high_water (omega arith)) v.floats.view v.floats.projection
-      (λ j g. set-has s.world_palette i m no_matrix (omega (arith, v.palette_length)) matrixFits f j (v.floats.palette j g))
+  placed_valid View m h f = stored_valid v.palette_length v.texture_length v.high_water f v.floats.projection v.floats.palette v.floats.texture
+  placed_valid Projection m h f = stored_valid v.palette_length v.texture_length v.high_water v.floats.view f v.floats.palette v.floats.texture
+  placed_valid (Texture i) m h f =
+      stored_valid v.palette_length (length-set s.texture_transforms i m ∙ v.texture_length) v.high_water v.floats.view v.floats.projection v.floats.palette
+      (λ j g. set_has s.texture_transforms i m no_matrix (omega (arith, v.texture_length)) matrixFits f j (v.floats.texture j g))
+  placed_valid (Palette i) m h f =
+      stored_valid (length-set s.world_palette i m ∙ v.palette_length) v.texture_length (max-le v.high_water (omega arith)) v.floats.view v.floats.projection
+      (λ j g. set_has s.world_palette i m no_matrix (omega (arith, v.palette_length)) matrixFits f j (v.floats.palette j g))
       v.floats.texture
 
 place-bits : (p : Place) → place_bits p ≤ all_bits
@@ -102,15 +102,15 @@ module _ {s : FfState} {a : AbstractState} (v : Valid s) (g : Agrees s a) (m : D
   unfolding raised
   unraised n h = rw (lt-leb 256 n h) g.highest
 
-  raised-to : (i n : ℕ) → n ≡ 256 + i → i < 256 → max s.world_palette_high_water i ≡ raised a.highest_index n
+  raised_to : (i n : ℕ) → n ≡ 256 + i → i < 256 → max s.world_palette_high_water i ≡ raised a.highest_index n
   unfolding raised
-  raised-to i n e h =
+  raised_to i n e h =
       let j : i ≡ n - 256 = omega arith in
       rw (le-leb 256 n (omega arith), le-leb n 511 (omega arith)) (ap₂ max g.highest j)
 
-  placed-agrees : (p : Place) (n : ℕ) → n ≡ number p → InRange p → Agrees (placed s p m) (replaced_matrix a n m)
+  placed_agrees : (p : Place) (n : ℕ) → n ≡ number p → InRange p → Agrees (placed s p m) (replaced_matrix a n m)
   unfolding placed state_lights
-  placed-agrees View n e h =
+  placed_agrees View n e h =
       record {
         matrices =
             record {
@@ -125,7 +125,7 @@ module _ {s : FfState} {a : AbstractState} (v : Valid s) (g : Agrees s a) (m : D
         states = g.states;
         texture-mask = g.texture-mask;
       }
-  placed-agrees Projection n e h =
+  placed_agrees Projection n e h =
       record {
         matrices =
             record {
@@ -140,7 +140,7 @@ module _ {s : FfState} {a : AbstractState} (v : Valid s) (g : Agrees s a) (m : D
         states = g.states;
         texture-mask = g.texture-mask;
       }
-  placed-agrees (Texture i) n e h =
+  placed_agrees (Texture i) n e h =
       record {
         matrices =
             record {
@@ -155,7 +155,7 @@ module _ {s : FfState} {a : AbstractState} (v : Valid s) (g : Agrees s a) (m : D
         states = g.states;
         texture-mask = g.texture-mask;
       }
-  placed-agrees (Palette i) n e h =
+  placed_agrees (Palette i) n e h =
       record {
         matrices =
             record {
@@ -166,7 +166,7 @@ module _ {s : FfState} {a : AbstractState} (v : Valid s) (g : Agrees s a) (m : D
             };
         material = g.material;
         lights = g.lights;
-        highest = raised-to i n e h;
+        highest = raised_to i n e h;
         states = g.states;
         texture-mask = g.texture-mask;
       }
@@ -188,17 +188,17 @@ module _ {s : FfState} (v : Valid s) (n : ℕ) where
     change_valid fits = go (named n)
       where
         go : Named n → Valid (change_at s (slot_of n) f).state
-        go (place p h e q k) = rw q (dirtied_valid (place_bits p) (place-bits p) (placed-valid v p (f p) h (fits p)))
+        go (place p h e q k) = rw q (dirtied_valid (place_bits p) (place-bits p) (placed_valid v p (f p) h (fits p)))
         go (no_place q k) = rw q v
 
     -- the step of an operation that is refused by the number alone
-    change-agrees : {a : AbstractState} (m : D3DMATRIX) → ((p : Place) → InRange p → n ≡ number p → f p ≡ m) → Agrees s a
+    change_agrees : {a : AbstractState} (m : D3DMATRIX) → ((p : Place) → InRange p → n ≡ number p → f p ≡ m) → Agrees s a
         → Agrees (change_at s (slot_of n) f).state (cond (eqb (cond (known n) 0 1) 0) (replaced_matrix a n m) a)
     unfolding change_at
-    change-agrees {a} m same g = go (named n)
+    change_agrees {a} m same g = go (named n)
       where
         go : Named n → Agrees (change_at s (slot_of n) f).state (cond (eqb (cond (known n) 0 1) 0) (replaced_matrix a n m) a)
-        go (place p h e q k) = rw (q, k, same p h e) (dirtied_agrees (place_bits p) (placed-agrees v g m p n e h))
+        go (place p h e q k) = rw (q, k, same p h e) (dirtied_agrees (place_bits p) (placed_agrees v g m p n e h))
         go (no_place q k) = rw (q, k) g
 
   module _ (m : D3DMATRIX) where
@@ -206,21 +206,21 @@ module _ {s : FfState} (v : Valid s) (n : ℕ) where
     unfolding set_transform
     set-number = number_is (λ p. m)
 
-    pub set-valid : matrixFits m → Valid (set_transform s n m).state
+    pub set_valid : matrixFits m → Valid (set_transform s n m).state
     unfolding set_transform
-    set-valid h = change_valid (λ p. m) (λ p. h)
+    set_valid h = change_valid (λ p. m) (λ p. h)
 
     pub set_agrees : {a : AbstractState} → Agrees s a → Agrees (set_transform s n m).state (abstract_step a (Operations.set_transform n m))
     unfolding set_transform abstract_step abstract_refusal abstract_change
-    set_agrees g = change-agrees (λ p. m) m (λ p h e. refl) g
+    set_agrees g = change_agrees (λ p. m) m (λ p h e. refl) g
 
-    pub multiply-number : transform_number (multiply_transform s n m).answer ≡ cond (known n) 0 1
+    pub multiply_number : transform_number (multiply_transform s n m).answer ≡ cond (known n) 0 1
     unfolding multiply_transform
-    multiply-number = number_is (multiplied s m)
+    multiply_number = number_is (multiplied s m)
 
-    pub multiply-valid : Valid (multiply_transform s n m).state
+    pub multiply_valid : Valid (multiply_transform s n m).state
     unfolding multiply_transform
-    multiply-valid = change_valid (multiplied s m) (λ p. mat_mul_fits m (place_matrix s p))
+    multiply_valid = change_valid (multiplied s m) (λ p. mat_mul_fits m (place_matrix s p))
 
 matrix-at : {s : FfState} {a : AbstractState} → Agrees s a → (p : Place) → InRange p → place_matrix s p ≡ a.matrix (number p)
 unfolding place_matrix
@@ -230,17 +230,17 @@ matrix-at g (Texture i) h = g.matrices.texture i h
 matrix-at g (Palette i) h = g.matrices.palette i h
 
 module _ {s : FfState} {a : AbstractState} (v : Valid s) (g : Agrees s a) (n : ℕ) where
-  pub multiply-agrees : (m : D3DMATRIX) → Agrees (multiply_transform s n m).state (abstract_step a (Operations.multiply_transform n m))
+  pub multiply_agrees : (m : D3DMATRIX) → Agrees (multiply_transform s n m).state (abstract_step a (Operations.multiply_transform n m))
   unfolding multiply_transform abstract_step abstract_refusal abstract_change
-  multiply-agrees m =
-      change-agrees v n (multiplied s m) (mat_mul m (a.matrix n))
+  multiply_agrees m =
+      change_agrees v n (multiplied s m) (mat_mul m (a.matrix n))
       (λ p h e. ap (mat_mul m) (matrix-at g p h ∙ ap a.matrix (sym e)))
       g
 
   -- a read refuses an unknown number, and gives the matrix of any other
-  pub transform-read : transform_of s n ≡ cond (known n) (Reads.Matrix (a.matrix n)) Reads.UnknownState
+  pub transform_read : transform_of s n ≡ cond (known n) (Reads.Matrix (a.matrix n)) Reads.UnknownState
   unfolding transform_of read_at
-  transform-read = go (named n)
+  transform_read = go (named n)
     where
       go : Named n → transform_of s n ≡ cond (known n) (Reads.Matrix (a.matrix n)) Reads.UnknownState
       go (place p h e q k) = rw (q, k) (ap Reads.Matrix (matrix-at g p h ∙ ap a.matrix (sym e)))

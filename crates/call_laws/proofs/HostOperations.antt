@@ -30,13 +30,13 @@ use Rattle.image.specs.Read.{state_of}
 use Rattle.image_laws.specs.Exactly.{IsAccepted}
 use Rattle.image_laws.proofs.AcceptedValid.{accepted_valid}
 use Rattle.image_laws.proofs.Exactly.{image-bytes}
-use Rattle.image_laws.proofs.ReadWritten.{read-written}
+use Rattle.image_laws.proofs.ReadWritten.{read_written}
 use Rattle.image_laws.proofs.ValidAccepted.{valid_accepted}
-use Rattle.image_agreement.proofs.ImageAgrees.{image-agrees}
+use Rattle.image_agreement.proofs.ImageAgrees.{image_agrees}
 use Rattle.calls.specs.Answer.{Answer, or_next, length_number}
 use Rattle.calls.specs.Call.{called, call_code, changing}
 use Rattle.calls.proofs.Answers.{answered_code, answered_either, next_zero, next_rest}
-use Rattle.calls.proofs.Calls.{code_is, code-nine}
+use Rattle.calls.proofs.Calls.{code_is, code_nine}
 use Rattle.call_laws.specs.HostOperations.{HostOperation, host_answer, is_whole, said, operation_of, host_refusal, ItemFits}
 
 -- ---- what the item says
@@ -120,30 +120,30 @@ module _ (h : HostOperation) (image : List ℕ) where
       (answered_either (call_code own (item_number h) image) (image_bytes after.state) image)
 
   -- "a refusal leaves the image as found": of any bytes
-  pub host-refused-same : ((host_answer h image).code ≡ 0 → ⊥) → (host_answer h image).out ≡ image
-  host-refused-same f = ⊎_elim (λ y. absurd (f y.0)) (λ n. n.1) left
+  pub host_refused_same : ((host_answer h image).code ≡ 0 → ⊥) → (host_answer h image).out ≡ image
+  host_refused_same f = ⊎_elim (λ y. absurd (f y.0)) (λ n. n.1) left
 
   -- on any bytes the number is document 01's
-  pub host-refused-alike : Bytes image → (host_answer h image).code ≡ host_refusal image h
+  pub host_refused-alike : Bytes image → (host_answer h image).code ≡ host_refusal image h
   unfolding host_refusal
-  host-refused-alike b = go (refused image) refl
+  host_refused-alike b = go (refused image) refl
     where
       go : (t : Bool) → refused image ≡ t → (host_answer h image).code ≡ host_refusal image h
-      go true q = rw q (code ∙ code-nine own (item_number h) image q)
+      go true q = rw q (code ∙ code_nine own (item_number h) image q)
       go false q =
           rw q
           (code ∙ code_is own (item_number h) image q ∙ next_is after.number (item_number h)
-          ∙ ap (λ (n : ℕ). cond (eqb n 0) (item_number h) n) (refused-alike (accepted_valid image b q) (image-agrees image q) (said h)))
+          ∙ ap (λ (n : ℕ). cond (eqb n 0) (item_number h) n) (refused-alike (accepted_valid image b q) (image_agrees image q) (said h)))
 
   module _ (a : IsAccepted image) where
     valid : Valid (state_of image)
     valid = accepted_valid image a.each a.taken
 
-    code-next : (host_answer h image).code ≡ or_next after.number (item_number h)
-    code-next = code ∙ code_is own (item_number h) image a.taken
+    code_next : (host_answer h image).code ≡ or_next after.number (item_number h)
+    code_next = code ∙ code_is own (item_number h) image a.taken
 
-    pub host-accepted-kept : ItemFits h → IsAccepted (host_answer h image).out
-    host-accepted-kept fit =
+    pub host_accepted_kept : ItemFits h → IsAccepted (host_answer h image).out
+    host_accepted_kept fit =
         ⊎_elim
         (λ y.
         let v = valid_kept valid (said h) (said_fits h fit) in
@@ -151,31 +151,31 @@ module _ (h : HostOperation) (image : List ℕ) where
         (λ n. subst IsAccepted (sym n.1) a) left
 
     -- an item of another length leaves the image
-    pub host-unsaid : operation_of h ≡ none → (host_answer h image).out ≡ image
-    host-unsaid e =
-        host-refused-same
+    pub host_unsaid : operation_of h ≡ none → (host_answer h image).out ≡ image
+    host_unsaid e =
+        host_refused_same
         (λ (z : (host_answer h image).code ≡ 0).
         let four : item_number h ≡ 4 = rw (unsaid_is h e) in
-        let none : item_number h ≡ 0 = next_rest after.number (item_number h) (sym code-next ∙ z) in
+        let none : item_number h ≡ 0 = next_rest after.number (item_number h) (sym code_next ∙ z) in
         omega (arith, four, none))
 
     module _ (op : Operation) (e : operation_of h ≡ some op) where
       -- answered as by value
-      pub host-number : (host_answer h image).code ≡ (operate (state_of image) op).number
-      host-number =
+      pub host_number : (host_answer h image).code ≡ (operate (state_of image) op).number
+      host_number =
           let whole : item_number h ≡ 0 = rw (said_is h op e).0 in
-          code-next ∙ ap (or_next after.number) whole ∙ next_zero after.number ∙ ap (λ (o : Operation). (operate (state_of image) o).number) (said_is h op e).1
+          code_next ∙ ap (or_next after.number) whole ∙ next_zero after.number ∙ ap (λ (o : Operation). (operate (state_of image) o).number) (said_is h op e).1
 
       -- and the image reads as the state by value, refused or not
-      pub host-state : ItemFits h → state_of (host_answer h image).out ≡ (operate (state_of image) op).state
-      host-state fit =
+      pub host_state : ItemFits h → state_of (host_answer h image).out ≡ (operate (state_of image) op).state
+      host_state fit =
           let same = (said_is h op e).1 in
           ⊎_elim
-          (λ y. ap state_of y.1 ∙ read-written after.state (valid_kept valid (said h) (said_fits h fit)) ∙ ap (λ (o : Operation). (operate (state_of image) o).state) same)
-          (λ n. ap state_of n.1 ∙ sym (refused_same (state_of image) op (λ (z : (operate (state_of image) op).number ≡ 0). n.0 (host-number ∙ z)))) left
+          (λ y. ap state_of y.1 ∙ read_written after.state (valid_kept valid (said h) (said_fits h fit)) ∙ ap (λ (o : Operation). (operate (state_of image) o).state) same)
+          (λ n. ap state_of n.1 ∙ sym (refused_same (state_of image) op (λ (z : (operate (state_of image) op).number ≡ 0). n.0 (host_number ∙ z)))) left
 
       -- what the image holds goes on as the abstract state does
-      pub host-agrees-kept : ItemFits h → Agrees (state_of (host_answer h image).out) (abstract_step (image_abstract image) op)
-      host-agrees-kept fit =
-          subst (λ (s : FfState). Agrees s (abstract_step (image_abstract image) op)) (sym (host-state fit))
-          (agrees_kept valid (image-agrees image a.taken) op (operation_fits h op e fit))
+      pub host_agrees_kept : ItemFits h → Agrees (state_of (host_answer h image).out) (abstract_step (image_abstract image) op)
+      host_agrees_kept fit =
+          subst (λ (s : FfState). Agrees s (abstract_step (image_abstract image) op)) (sym (host_state fit))
+          (agrees_kept valid (image_agrees image a.taken) op (operation_fits h op e fit))

@@ -16,16 +16,16 @@ use Rattle.image.specs.Read.{state_of}
 use Rattle.image.specs.Write.{write_image, write_number}
 use Rattle.image_laws.specs.Exactly.{IsAccepted}
 use Rattle.image_laws.proofs.Exactly.{image-bytes}
-use Rattle.image_laws.proofs.ReadWritten.{read-written}
+use Rattle.image_laws.proofs.ReadWritten.{read_written}
 use Rattle.image_laws.proofs.ValidAccepted.{valid_accepted}
 use Rattle.calls.specs.Answer.{Answer, answer}
 use Rattle.calls.specs.Images.{ff_image_fresh}
 
 module _ (image : List ℕ) where
   -- "Writing refuses 4 for another length."
-  pub fresh-refused : (length image ≡ image_length → ⊥) → ff_image_fresh image ≡ answer 4 image
+  pub fresh_refused : (length image ≡ image_length → ⊥) → ff_image_fresh image ≡ answer 4 image
   unfolding ff_image_fresh write_image write_number
-  fresh-refused h = rw (ne_eqb (length image) image_length h)
+  fresh_refused h = rw (ne_eqb (length image) image_length h)
 
   module _ (long : length image ≡ image_length) where
     is : ff_image_fresh image ≡ answer 0 (image_bytes fresh_state)
@@ -35,12 +35,12 @@ module _ (image : List ℕ) where
     left_is : (ff_image_fresh image).out ≡ image_bytes fresh_state
     left_is = ap (λ (r : Answer (List ℕ)). r.out) is
 
-    pub fresh-accepted : ((ff_image_fresh image).code ≡ 0) × IsAccepted (ff_image_fresh image).out
-    fresh-accepted =
+    pub fresh_accepted : ((ff_image_fresh image).code ≡ 0) × IsAccepted (ff_image_fresh image).out
+    fresh_accepted =
         (ap (λ (r : Answer (List ℕ)). r.code) is, subst IsAccepted (sym left_is) (record { each = image-bytes fresh_state; taken = valid_accepted fresh_state fresh_valid }))
 
-    pub fresh-reads : state_of (ff_image_fresh image).out ≡ fresh_state
-    fresh-reads = ap state_of left_is ∙ read-written fresh_state fresh_valid
+    pub fresh_reads : state_of (ff_image_fresh image).out ≡ fresh_state
+    fresh_reads = ap state_of left_is ∙ read_written fresh_state fresh_valid
 
-    pub fresh-image-agrees : Agrees (state_of (ff_image_fresh image).out) fresh_abstract
-    fresh-image-agrees = subst (λ (s : FfState). Agrees s fresh_abstract) (sym fresh-reads) fresh_agrees
+    pub fresh_image_agrees : Agrees (state_of (ff_image_fresh image).out) fresh_abstract
+    fresh_image_agrees = subst (λ (s : FfState). Agrees s fresh_abstract) (sym fresh_reads) fresh_agrees

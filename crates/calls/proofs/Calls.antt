@@ -47,91 +47,91 @@ fresh_written image {last = last} fresh e number =
     ap (λ (m : ℕ). answer m last) (sym number) ∙ ap write_answer (e ∙ ap (λ (t : FfState). write_image t image) fresh)
 
 module _ (own : FfState → ℕ) (len : ℕ) (image : List ℕ) where
-  pub code-nine : refused image ≡ true → call_code own len image ≡ 9
+  pub code_nine : refused image ≡ true → call_code own len image ≡ 9
   unfolding call_code read_number
-  code-nine h = rw h
+  code_nine h = rw h
 
   module _ (h : refused image ≡ false) where
     pub code_is : call_code own len image ≡ or_next (own (state_of image)) len
     unfolding call_code
     code_is = rw h
 
-    code-rest : call_code own len image ≡ 0 → len ≡ 0
-    code-rest e = next_rest (own (state_of image)) len (sym code_is ∙ e)
+    code_rest : call_code own len image ≡ 0 → len ≡ 0
+    code_rest e = next_rest (own (state_of image)) len (sym code_is ∙ e)
 
-    pub code-own : {k : ℕ} → own (state_of image) ≡ suc k → call_code own len image ≡ suc k
+    pub code_own : {k : ℕ} → own (state_of image) ≡ suc k → call_code own len image ≡ suc k
     unfolding call_code or_next
-    code-own e = rw (h, e)
+    code_own e = rw (h, e)
 
-    pub code-length : own (state_of image) ≡ 0 → call_code own len image ≡ len
+    pub code_length : own (state_of image) ≡ 0 → call_code own len image ≡ len
     unfolding call_code or_next
-    code-length e = rw (h, e)
+    code_length e = rw (h, e)
 
   -- 0 past every test
-  pub code-passed : call_code own len image ≡ 0 → (refused image ≡ false) × (len ≡ 0)
-  code-passed e = go (refused image) refl
+  pub code_passed : call_code own len image ≡ 0 → (refused image ≡ false) × (len ≡ 0)
+  code_passed e = go (refused image) refl
     where
       go : (t : Bool) → refused image ≡ t → (refused image ≡ false) × (len ≡ 0)
-      go true h = absurd (let nine = sym (code-nine h) ∙ e in omega (arith, nine))
-      go false h = (h, code-rest h e)
+      go true h = absurd (let nine = sym (code_nine h) ∙ e in omega (arith, nine))
+      go false h = (h, code_rest h e)
 
 -- the returns of a call that changes the state
 module _ (call : FfState → Called) (len : ℕ) (image : List ℕ) where
-  pub changing-code : (changing call len image).code ≡ call_code (λ s. (call s).number) len image
+  pub changing_code : (changing call len image).code ≡ call_code (λ s. (call s).number) len image
   unfolding changing
-  changing-code = answered_code (call_code (λ s. (call s).number) len image) _ image
+  changing_code = answered_code (call_code (λ s. (call s).number) len image) _ image
 
   -- by its whole number: the image as found, or written back
   pub changing-refused : (n : ℕ) → n ≡ (changing call len image).code → (n ≡ 0 → ⊥) → answer n image ≡ changing call len image
   unfolding changing
   changing-refused zero e f = absurd (f refl)
-  changing-refused (suc k) e f = Answers.refused _ image (sym (e ∙ changing-code))
+  changing-refused (suc k) e f = Answers.refused _ image (sym (e ∙ changing_code))
 
-  pub changing-accepted : {last : List ℕ} → (changing call len image).code ≡ 0 → last ≡ image_bytes (call (state_of image)).state → answer 0 last ≡ changing call len image
+  pub changing_accepted : {last : List ℕ} → (changing call len image).code ≡ 0 → last ≡ image_bytes (call (state_of image)).state → answer 0 last ≡ changing call len image
   unfolding changing
-  changing-accepted e q = Answers.accepted _ image (sym changing-code ∙ e) q
+  changing_accepted e q = Answers.accepted _ image (sym changing_code ∙ e) q
 
-  pub changing-passed : (changing call len image).code ≡ 0 → (refused image ≡ false) × (len ≡ 0)
-  changing-passed e = code-passed (λ s. (call s).number) len image (sym changing-code ∙ e)
+  pub changing_passed : (changing call len image).code ≡ 0 → (refused image ≡ false) × (len ≡ 0)
+  changing_passed e = code_passed (λ s. (call s).number) len image (sym changing_code ∙ e)
 
-  pub changing-nine : refused image ≡ true → answer 9 image ≡ changing call len image
+  pub changing_nine : refused image ≡ true → answer 9 image ≡ changing call len image
   unfolding changing
-  changing-nine h = Answers.refused _ image (code-nine (λ s. (call s).number) len image h)
+  changing_nine h = Answers.refused _ image (code_nine (λ s. (call s).number) len image h)
 
   module _ (h : refused image ≡ false) where
-    pub changing-own : {k : ℕ} → (call (state_of image)).number ≡ suc k → answer (suc k) image ≡ changing call len image
+    pub changing_own : {k : ℕ} → (call (state_of image)).number ≡ suc k → answer (suc k) image ≡ changing call len image
     unfolding changing
-    changing-own e = Answers.refused _ image (code-own (λ s. (call s).number) len image h e)
+    changing_own e = Answers.refused _ image (code_own (λ s. (call s).number) len image h e)
 
     pub changing-length : {k : ℕ} → (call (state_of image)).number ≡ 0 → len ≡ suc k → answer (suc k) image ≡ changing call len image
     unfolding changing
-    changing-length e l = Answers.refused _ image (code-length (λ s. (call s).number) len image h e ∙ l)
+    changing-length e l = Answers.refused _ image (code_length (λ s. (call s).number) len image h e ∙ l)
 
-    pub changing-done : {last : List ℕ} → (call (state_of image)).number ≡ 0 → len ≡ 0 → last ≡ image_bytes (call (state_of image)).state → answer 0 last ≡ changing call len image
+    pub changing_done : {last : List ℕ} → (call (state_of image)).number ≡ 0 → len ≡ 0 → last ≡ image_bytes (call (state_of image)).state → answer 0 last ≡ changing call len image
     unfolding changing
-    changing-done e l q = Answers.accepted _ image (code-length (λ s. (call s).number) len image h e ∙ l) q
+    changing_done e l q = Answers.accepted _ image (code_length (λ s. (call s).number) len image h e ∙ l) q
 
 -- the last return of a setter that never refuses: the state is read, set to the value, and written back
 module _ {A : Type 0} (set : FfState → A → FfState) (v : A) (image : List ℕ) (h : refused image ≡ false) where
-  pub setting-done : {s t : FfState} {x : A} {last : List ℕ} → s ≡ state_of image → x ≡ v → t ≡ set s x → last ≡ image_bytes t
+  pub setting_done : {s t : FfState} {x : A} {last : List ℕ} → s ≡ state_of image → x ≡ v → t ≡ set s x → last ≡ image_bytes t
       → answer 0 last ≡ changing (λ s. called 0 (set s v)) 0 image
-  setting-done read given is wrote = changing-done _ 0 image h refl refl (wrote ∙ ap image_bytes (is ∙ ap₂ set read given))
+  setting_done read given is wrote = changing_done _ 0 image h refl refl (wrote ∙ ap image_bytes (is ∙ ap₂ set read given))
 
 -- the returns of a call that reads the state
 module _ {A : Type 0} (own : FfState → ℕ) (value : FfState → A) (len : ℕ) (image : List ℕ) (out : A) where
-  pub reading-nine : refused image ≡ true → answer 9 out ≡ reading own value len image out
+  pub reading_nine : refused image ≡ true → answer 9 out ≡ reading own value len image out
   unfolding reading
-  reading-nine h = Answers.refused _ out (code-nine own len image h)
+  reading_nine h = Answers.refused _ out (code_nine own len image h)
 
   module _ (h : refused image ≡ false) where
-    pub reading-own : {k : ℕ} → own (state_of image) ≡ suc k → answer (suc k) out ≡ reading own value len image out
+    pub reading_own : {k : ℕ} → own (state_of image) ≡ suc k → answer (suc k) out ≡ reading own value len image out
     unfolding reading
-    reading-own e = Answers.refused _ out (code-own own len image h e)
+    reading_own e = Answers.refused _ out (code_own own len image h e)
 
     pub reading-length : {k : ℕ} → own (state_of image) ≡ 0 → len ≡ suc k → answer (suc k) out ≡ reading own value len image out
     unfolding reading
-    reading-length e l = Answers.refused _ out (code-length own len image h e ∙ l)
+    reading-length e l = Answers.refused _ out (code_length own len image h e ∙ l)
 
-    pub reading-done : {last : A} → own (state_of image) ≡ 0 → len ≡ 0 → last ≡ value (state_of image) → answer 0 last ≡ reading own value len image out
+    pub reading_done : {last : A} → own (state_of image) ≡ 0 → len ≡ 0 → last ≡ value (state_of image) → answer 0 last ≡ reading own value len image out
     unfolding reading
-    reading-done e l q = Answers.accepted _ out (code-length own len image h e ∙ l) q
+    reading_done e l q = Answers.accepted _ out (code_length own len image h e ∙ l) q

@@ -34,9 +34,9 @@ one_written : float_bytes (fin false 1 (pos 0)) ≡ 0 ∷ 0 ∷ 0x80 ∷ 0x3F �
 unfolding float_bytes little_bytes to_bits
 one_written = refl
 
-minus_zero-written : float_bytes (fin true 0 (pos 0)) ≡ 0 ∷ 0 ∷ 0 ∷ 0x80 ∷ []
+minus_zero_written : float_bytes (fin true 0 (pos 0)) ≡ 0 ∷ 0 ∷ 0 ∷ 0x80 ∷ []
 unfolding float_bytes little_bytes to_bits
-minus_zero-written = refl
+minus_zero_written = refl
 
 nan_written : float_bytes nan ≡ 0 ∷ 0 ∷ 0xC0 ∷ 0x7F ∷ []
 unfolding float_bytes little_bytes to_bits
@@ -55,20 +55,20 @@ module _ (a b c d e f g h i j k l m n o p q r s t u v w x y : Float) where
   abbrev color : Float → Float → Float → Float → D3DCOLORVALUE
   color α β γ δ = record { r = α; g = β; b = γ; a = δ }
 
-  matrix-order : matrix_bytes (record { r0 = row a b c d; r1 = row e f g h; r2 = row i j k l; r3 = row m n o p })
+  matrix_order : matrix_bytes (record { r0 = row a b c d; r1 = row e f g h; r2 = row i j k l; r3 = row m n o p })
       ≡ flatten (map float_bytes (a ∷ b ∷ c ∷ d ∷ e ∷ f ∷ g ∷ h ∷ i ∷ j ∷ k ∷ l ∷ m ∷ n ∷ o ∷ p ∷ []))
   unfolding matrix_bytes row_bytes flatten float_bytes little_bytes
-  matrix-order = refl
+  matrix_order = refl
 
   -- diffuse, ambient, specular, emissive, power
-  material-order : material_bytes
+  material_order : material_bytes
       (record { diffuse = color a b c d; ambient = color e f g h; specular = color i j k l; emissive = color m n o p; power = q })
       ≡ flatten (map float_bytes (a ∷ b ∷ c ∷ d ∷ e ∷ f ∷ g ∷ h ∷ i ∷ j ∷ k ∷ l ∷ m ∷ n ∷ o ∷ p ∷ q ∷ []))
   unfolding material_bytes color_bytes row_bytes flatten float_bytes little_bytes
-  material-order = refl
+  material_order = refl
 
   -- type, diffuse, specular, ambient, position, direction, range, falloff, attenuation 0 to 2, theta, phi
-  light-order : (type : ℕ)
+  light_order : (type : ℕ)
       → light_bytes
       (record {
         type_ = type;
@@ -88,4 +88,4 @@ module _ (a b c d e f g h i j k l m n o p q r s t u v w x y : Float) where
       ≡ little_bytes 4 type
       ++ flatten (map float_bytes (a ∷ b ∷ c ∷ d ∷ e ∷ f ∷ g ∷ h ∷ i ∷ j ∷ k ∷ l ∷ m ∷ n ∷ o ∷ p ∷ q ∷ r ∷ s ∷ t ∷ u ∷ v ∷ w ∷ x ∷ y ∷ []))
   unfolding light_bytes color_bytes row_bytes vector_bytes flatten float_bytes little_bytes
-  light-order type = refl
+  light_order type = refl

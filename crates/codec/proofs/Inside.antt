@@ -24,6 +24,6 @@ module _ {A : Type 0} (read : List ℕ → ℕ → A) (skips : Skips read) (vs :
       ∙ skips pre (vs ++ post) 0
       ∙ starts post
 
-  pub where-put : (at : ℕ) (m : List ℕ) → at + length vs ≤ length m → read (put at vs m) at ≡ x
+  pub where_put : (at : ℕ) (m : List ℕ) → at + length vs ≤ length m → read (put at vs m) at ≡ x
   unfolding put
-  where-put at m room = inside (take at m) (drop (length vs) (drop at m)) at (length-take-le at m (omega arith))
+  where_put at m room = inside (take at m) (drop (length vs) (drop at m)) at (length-take-le at m (omega arith))

@@ -45,85 +45,85 @@ abbrev pub Outside : ℕ → ℕ → ℕ → Type 0
 Outside at n i = (i < at) ⊎ (at + n ≤ i)
 
 module _ {A : Type 0} (at : ℕ) (vs m : List A) (room : at + length vs ≤ length m) where
-  head-length : length (take at m) ≡ at
-  head-length = length-take-le at m (omega arith)
+  head_length : length (take at m) ≡ at
+  head_length = length-take-le at m (omega arith)
 
   pub length-put : length (put at vs m) ≡ length m
   unfolding put
-  length-put = simp (length-append, length-drop, head-length) (omega arith)
+  length-put = simp (length-append, length-drop, head_length) (omega arith)
 
   -- what was put, and the rest behind it
   pub drop-put : drop at (put at vs m) ≡ vs ++ drop (length vs) (drop at m)
   unfolding put
-  drop-put = drop_at (take at m) (vs ++ drop (length vs) (drop at m)) at head-length
+  drop-put = drop_at (take at m) (vs ++ drop (length vs) (drop at m)) at head_length
 
-  pub read-put : take (length vs) (drop at (put at vs m)) ≡ vs
-  read-put = rw drop-put (take_at vs (drop (length vs) (drop at m)) (length vs) refl)
+  pub read_put : take (length vs) (drop at (put at vs m)) ≡ vs
+  read_put = rw drop-put (take_at vs (drop (length vs) (drop at m)) (length vs) refl)
 
   before : (n : ℕ) → n ≤ at → take n (put at vs m) ≡ take n m
   unfolding put
-  before n h = take-append-le n (take at m) (vs ++ drop (length vs) (drop at m)) (rw head-length h) ∙ take-take n at m h
+  before n h = take-append-le n (take at m) (vs ++ drop (length vs) (drop at m)) (rw head_length h) ∙ take-take n at m h
 
   -- the k elements from n on, all of them before what was put
-  pub read-before : (k n : ℕ) → n + k ≤ at → take k (drop n (put at vs m)) ≡ take k (drop n m)
-  read-before k n h =
+  pub read_before : (k n : ℕ) → n + k ≤ at → take k (drop n (put at vs m)) ≡ take k (drop n m)
+  read_before k n h =
       take-drop k n (put at vs m) ∙ ap (λ (l : List A). drop n l) (before (n + k) h) ∙ sym (take-drop k n m)
 
-  take-seam : take (at + length vs) (put at vs m) ≡ take at m ++ vs
+  take_seam : take (at + length vs) (put at vs m) ≡ take at m ++ vs
   unfolding put
-  take-seam =
-      let long : length (take at m ++ vs) ≡ at + length vs = simp (length-append, head-length) in
+  take_seam =
+      let long : length (take at m ++ vs) ≡ at + length vs = simp (length-append, head_length) in
       rw (← append_assoc) (take_at (take at m ++ vs) (drop (length vs) (drop at m)) (at + length vs) long)
 
-  drop-seam : drop (at + length vs) (put at vs m) ≡ drop (at + length vs) m
-  drop-seam =
+  drop_seam : drop (at + length vs) (put at vs m) ≡ drop (at + length vs) m
+  drop_seam =
       sym (drop-drop (length vs) at (put at vs m))
       ∙ ap (λ (l : List A). drop (length vs) l) drop-put
       ∙ drop_at vs (drop (length vs) (drop at m)) (length vs) refl
       ∙ drop-drop (length vs) at m
 
-  pub drop-behind : (n : ℕ) → at + length vs ≤ n → drop n (put at vs m) ≡ drop n m
-  drop-behind n h =
+  pub drop_behind : (n : ℕ) → at + length vs ≤ n → drop n (put at vs m) ≡ drop n m
+  drop_behind n h =
       let s : ℕ = at + length vs in
       let t : ℕ = n - s in
       let e : n ≡ s + t = omega arith in
       ap (λ (k : ℕ). drop k (put at vs m)) e
       ∙ sym (drop-drop t s (put at vs m))
-      ∙ ap (λ (l : List A). drop t l) drop-seam
+      ∙ ap (λ (l : List A). drop t l) drop_seam
       ∙ drop-drop t s m
       ∙ ap (λ (k : ℕ). drop k m) (sym e)
 
   module _ (d : A) where
-    from-there : (j : ℕ) → get_or (put at vs m) (at + j) d ≡ get_or (vs ++ drop (length vs) (drop at m)) j d
-    from-there j = sym (get_or-drop at (put at vs m) j d) ∙ ap (λ (l : List A). get_or l j d) drop-put
+    from_there : (j : ℕ) → get_or (put at vs m) (at + j) d ≡ get_or (vs ++ drop (length vs) (drop at m)) j d
+    from_there j = sym (get_or-drop at (put at vs m) j d) ∙ ap (λ (l : List A). get_or l j d) drop-put
 
-    pub getD-put : (j : ℕ) → j < length vs → get_or (put at vs m) (at + j) d ≡ get_or vs j d
-    getD-put j h = from-there j ∙ get_or-append vs (drop (length vs) (drop at m)) d j h
+    pub get_d_put : (j : ℕ) → j < length vs → get_or (put at vs m) (at + j) d ≡ get_or vs j d
+    get_d_put j h = from_there j ∙ get_or-append vs (drop (length vs) (drop at m)) d j h
 
-    getD-before : (i : ℕ) → i < at → get_or (put at vs m) i d ≡ get_or m i d
+    get_d_before : (i : ℕ) → i < at → get_or (put at vs m) i d ≡ get_or m i d
     unfolding put
-    getD-before i h =
-        get_or-append (take at m) (vs ++ drop (length vs) (drop at m)) d i (rw head-length h) ∙ get_or-take at m i d h
+    get_d_before i h =
+        get_or-append (take at m) (vs ++ drop (length vs) (drop at m)) d i (rw head_length h) ∙ get_or-take at m i d h
 
-    getD-behind : (i : ℕ) → at + length vs ≤ i → get_or (put at vs m) i d ≡ get_or m i d
-    getD-behind i h =
+    get_d_behind : (i : ℕ) → at + length vs ≤ i → get_or (put at vs m) i d ≡ get_or m i d
+    get_d_behind i h =
         let t : ℕ = i - (at + length vs) in
         let e : i ≡ at + (length vs + t) = omega arith in
         ap (λ (n : ℕ). get_or (put at vs m) n d) e
-        ∙ from-there (length vs + t)
+        ∙ from_there (length vs + t)
         ∙ get_or-append-add vs (drop (length vs) (drop at m)) t d
         ∙ get_or-drop (length vs) (drop at m) t d
         ∙ get_or-drop at m (length vs + t) d
         ∙ ap (λ (n : ℕ). get_or m n d) (sym e)
 
-    pub getD-outside : (i : ℕ) → Outside at (length vs) i → get_or (put at vs m) i d ≡ get_or m i d
-    getD-outside i o = ⊎_elim (getD-before i) (getD-behind i) o
+    pub get_d_outside : (i : ℕ) → Outside at (length vs) i → get_or (put at vs m) i d ≡ get_or m i d
+    get_d_outside i o = ⊎_elim (get_d_before i) (get_d_behind i) o
 
 pub put-append : {A : Type 0} (at : ℕ) (vs ws m : List A) → at + (length vs + length ws) ≤ length m → put at (vs ++ ws) m ≡ put (at + length vs) ws (put at vs m)
 unfolding put
 put-append at vs ws m h =
     let room : at + length vs ≤ length m = omega arith in
-    rw (take-seam at vs m room, drop-seam at vs m room) (simp (length-append, drop-drop, append_assoc, add_assoc))
+    rw (take_seam at vs m room, drop_seam at vs m room) (simp (length-append, drop-drop, append_assoc, add_assoc))
 
 -- parts one after the other, the first of them o behind `at`
 abbrev pub puts : {A : Type 0} → ℕ → ℕ → List (List A) → List A → List A

@@ -85,17 +85,17 @@ unfolding fresh_abstract abstract_step abstract_refusal abstract_change full loo
 room l = (refl, refl, refl)
 
 module _ (l k : D3DLIGHT9) where
-  set-then-enabled : lights_after (set_light 9 l ∷ enable_light 9 true ∷ []) ≡ indexed_light 9 true l ∷ []
+  set_then_enabled : lights_after (set_light 9 l ∷ enable_light 9 true ∷ []) ≡ indexed_light 9 true l ∷ []
   unfolding fresh_abstract abstract_step abstract_refusal abstract_change full lookup is_there count_beyond light_set light_enabled changed_at
-  set-then-enabled = refl
+  set_then_enabled = refl
 
   ascending : lights_after (set_light 9 l ∷ set_light 8 k ∷ []) ≡ indexed_light 8 false k ∷ indexed_light 9 false l ∷ []
   unfolding fresh_abstract abstract_step abstract_refusal abstract_change full lookup is_there count_beyond light_set light_enabled changed_at
   ascending = refl
 
-  setting-keeps-the-enable : lights_after (enable_light 3 true ∷ set_light 3 l ∷ set_light 3 k ∷ []) ≡ indexed_light 3 true k ∷ []
+  setting_keeps_the_enable : lights_after (enable_light 3 true ∷ set_light 3 l ∷ set_light 3 k ∷ []) ≡ indexed_light 3 true k ∷ []
   unfolding fresh_abstract abstract_step abstract_refusal abstract_change full lookup is_there count_beyond light_set light_enabled changed_at
-  setting-keeps-the-enable = refl
+  setting_keeps_the_enable = refl
 
 -- disabling makes the default light too
 made : lights_after (enable_light 70 false ∷ enable_light 2 true ∷ []) ≡ indexed_light 2 true default_light ∷ indexed_light 70 false default_light ∷ []

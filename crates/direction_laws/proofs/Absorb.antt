@@ -11,12 +11,12 @@ use lib.Ieee.{binary32, size}
 use lib.Ieee.Digits.{size-lt, size-le}
 use lib.Ieee.Scale.{grid}
 use borrow.Author.Tests.{leb-true, leb-false}
-use Rattle.float32.proofs.Grid.{unit, Short, long, power_below, power-above, absorb, split_off, whole_scale}
+use Rattle.float32.proofs.Grid.{unit, Short, long, power_below, power_above, absorb, split_off, whole_scale}
 
 -- ---- a sum rounded, in units, and powers of two
 
 pub sum_above : (n j : ℕ) → n < 2 ^ j → grid binary32 n unit ≤ 2 ^ j
-sum_above n j h = power-above n unit (pow_pos 149) j (mul-lt-mul_of_pos_right h (pow_pos 149))
+sum_above n j h = power_above n unit (pow_pos 149) j (mul-lt-mul_of_pos_right h (pow_pos 149))
 
 pub sum_below : (n j : ℕ) → 2 ^ j ≤ n → 2 ^ j ≤ grid binary32 n unit
 sum_below n j h = power_below n unit (pow_pos 149) j (mul-le-mul_right (2 ^ 149) h)

@@ -79,8 +79,8 @@ module _ (x l : Float) (h : float_fits x) (r : T (in_range l x)) where
   pub is_finite : T (finite x)
   is_finite = ⊎_elim (and_l (finite x) (eqb (in_units x) 0)) (λ (n : T (is_normal (times x x))). square_finite x (normal_says (times x x) n).0) kinds
 
-  pub is-large : Large (in_units x)
-  is-large =
+  pub is_large : Large (in_units x)
+  is_large =
       let c = counted x h is_finite in
       elim kinds [
         | inl z ↦ inl (eqb→eq (in_units x) 0 (and_r (finite x) (eqb (in_units x) 0) z))
@@ -113,8 +113,8 @@ module _ (x : Float) (c : Counted x) (z : ℕ) where
   n = in_units x
 
   -- up, by 2 ^ t
-  pub scaled-up : (t : ℕ) → z + t ≡ 150 → n < 2 ^ z → HasValue (times x (power z)) c.sign (n * 2 ^ t) unit
-  scaled-up t e h =
+  pub scaled_up : (t : ℕ) → z + t ≡ 150 → n < 2 ^ z → HasValue (times x (power z)) c.sign (n * 2 ^ t) unit
+  scaled_up t e h =
       let S = c.short in
       scaled_value x c.sign n z (n * 2 ^ t) c.value
       (record { m = S.m; j = S.j + t; few = S.few; is = ap (λ (a : ℕ). a * 2 ^ t) S.is ∙ mul_assoc S.m (2 ^ S.j) (2 ^ t) ∙ ap (λ (a : ℕ). S.m * a) (sym (pow-add 2 S.j t)) })
@@ -122,8 +122,8 @@ module _ (x : Float) (c : Counted x) (z : ℕ) where
       (mul_assoc n (2 ^ t) (2 ^ z) ∙ ap (λ (a : ℕ). n * a) (mul_comm (2 ^ t) (2 ^ z) ∙ sym (pow-add 2 z t) ∙ ap (λ (i : ℕ). 2 ^ i) e))
 
   -- down, by 2 ^ t
-  pub scaled-down : (t : ℕ) → z ≡ 150 + t → t ≤ 63 → Large n → n < limit → (y : ℕ) × (y * 2 ^ t ≡ n) × HasValue (times x (power z)) c.sign y unit
-  scaled-down t e near L small =
+  pub scaled_down : (t : ℕ) → z ≡ 150 + t → t ≤ 63 → Large n → n < limit → (y : ℕ) × (y * 2 ^ t ≡ n) × HasValue (times x (power z)) c.sign y unit
+  scaled_down t e near L small =
       ⊎_elim
       (λ (none : n ≡ 0). (0, zero-mul (2 ^ t) ∙ sym none, value 0 (record { m = 0; j = 0; few = lit< tt; is = refl }) (zero-mul (2 ^ t) ∙ sym none)))
       (λ (some : 2 ^ 86 ≤ n).

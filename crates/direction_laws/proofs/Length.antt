@@ -15,7 +15,7 @@ use lib.Ieee.Scale.{round_same}
 use borrow.Author.Tests.{lt-ltb, ne_eqb}
 use Rattle.d3d9_types.specs.Numbers.{zero, float_fits}
 use Rattle.float32.specs.Root.{nearest_root, root_of, sqrt_of, in_units, unsigned}
-use Rattle.float32.proofs.Laws.{size_is, root_of_value, units_of_value, sqrt-normal}
+use Rattle.float32.proofs.Laws.{size_is, root_of_value, units_of_value, sqrt_normal}
 use Rattle.float32.proofs.Grid.{unit, long}
 use Rattle.float32.proofs.Arithmetic.{unlike_false}
 
@@ -68,8 +68,8 @@ module _ (n t : ℕ) (p : 0 < n) where
       ap (λ (j : ℕ). nearest_root (n * 2 ^ (t + t) * 2 ^ 149 / (2 ^ j * 2 ^ j))) more
       ∙ ap nearest_root (ap₂ (λ (x y : ℕ). x / y) moved w ∙ mul-div-mul_right a (2 ^ k * 2 ^ k) (pow_pos (t + t)))
 
-  pub root-moved : root (n * 2 ^ (t + t)) ≡ root n * 2 ^ t
-  root-moved =
+  pub root_moved : root (n * 2 ^ (t + t)) ≡ root n * 2 ^ t
+  root_moved =
       ap₂ (λ (x y : ℕ). x * 2 ^ y) same_digits more
       ∙ ap (λ (x : ℕ). digits a * x) (pow-add 2 k t)
       ∙ sym (mul_assoc (digits a) (2 ^ k) (2 ^ t))
@@ -84,7 +84,7 @@ unsigned_of (fin false m e) n h = tt
 pub root_above : (x : Float) (n : ℕ) → float_fits x → HasValue x false n unit → 0 < n → 0 < root n
 root_above x n f h p =
     let c : 0 < in_units x = subst (λ (a : ℕ). 0 < a) (sym (units_of_value x n h)) p in
-    lt_of_lt_of_le (lit< {m = 0} {n = 2 ^ 23} tt) (subst (λ (a : ℕ). 2 ^ 23 ≤ a) (units_of_value (sqrt_of x) (root n) (root_value x n h p)) (sqrt-normal x f (unsigned_of x n h) c).1)
+    lt_of_lt_of_le (lit< {m = 0} {n = 2 ^ 23} tt) (subst (λ (a : ℕ). 2 ^ 23 ≤ a) (units_of_value (sqrt_of x) (root n) (root_value x n h p)) (sqrt_normal x f (unsigned_of x n h) c).1)
 
 -- ---- what is above zero exceeds it
 

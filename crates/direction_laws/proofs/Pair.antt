@@ -14,8 +14,8 @@ use Rattle.directions.specs.Direction.{length_of, over, no_direction, over_lengt
 use Rattle.direction_laws.specs.Domain.{sum_of_squares}
 use Rattle.float32.proofs.Grid.{unit}
 use Rattle.direction_laws.proofs.Sum.{total}
-use Rattle.direction_laws.proofs.Steps.{limit, sum-value}
-use Rattle.direction_laws.proofs.Length.{root, root_value, root-moved, root_above, exceeds, quotient_same}
+use Rattle.direction_laws.proofs.Steps.{limit, sum_value}
+use Rattle.direction_laws.proofs.Length.{root, root_value, root_moved, root_above, exceeds, quotient_same}
 
 module _ (d e : D3DVECTOR) (r s u : Bool) (a b c t : ℕ)
     (x : HasValue d.x r a unit) (y : HasValue d.y s b unit) (z : HasValue d.z u c unit)
@@ -24,22 +24,22 @@ module _ (d e : D3DVECTOR) (r s u : Bool) (a b c t : ℕ)
   n = total a b c
 
   module _ (some : 0 < n) (small : total (a * 2 ^ t) (b * 2 ^ t) (c * 2 ^ t) < limit) (is : total (a * 2 ^ t) (b * 2 ^ t) (c * 2 ^ t) ≡ n * 2 ^ (t + t)) where
-    sum-d : HasValue (sum_of_squares d) false n unit
-    sum-d = sum-value d.x d.y d.z r s u a b c x y z (lt_of_le_of_lt (le_trans (le-mul_of_pos_right n (pow_pos (t + t))) (le_of_eq (sym is))) small)
+    sum_d : HasValue (sum_of_squares d) false n unit
+    sum_d = sum_value d.x d.y d.z r s u a b c x y z (lt_of_le_of_lt (le_trans (le-mul_of_pos_right n (pow_pos (t + t))) (le_of_eq (sym is))) small)
 
-    sum-e : HasValue (sum_of_squares e) false (n * 2 ^ (t + t)) unit
-    sum-e = subst (λ (i : ℕ). HasValue (sum_of_squares e) false i unit) is (sum-value e.x e.y e.z r s u (a * 2 ^ t) (b * 2 ^ t) (c * 2 ^ t) x' y' z' small)
+    sum_e : HasValue (sum_of_squares e) false (n * 2 ^ (t + t)) unit
+    sum_e = subst (λ (i : ℕ). HasValue (sum_of_squares e) false i unit) is (sum_value e.x e.y e.z r s u (a * 2 ^ t) (b * 2 ^ t) (c * 2 ^ t) x' y' z' small)
 
     above : 0 < root n
-    above = root_above (sum_of_squares d) n (sum_fits (times d.x d.x ∷ times d.y d.y ∷ times d.z d.z ∷ [])) sum-d some
+    above = root_above (sum_of_squares d) n (sum_fits (times d.x d.x ∷ times d.y d.y ∷ times d.z d.z ∷ [])) sum_d some
 
-    length-d : HasValue (length_of d) false (root n) unit
+    length_d : HasValue (length_of d) false (root n) unit
     unfolding length_of
-    length-d = root_value (sum_of_squares d) n sum-d some
+    length_d = root_value (sum_of_squares d) n sum_d some
 
-    length-e : HasValue (length_of e) false (root n * 2 ^ t) unit
+    length_e : HasValue (length_of e) false (root n * 2 ^ t) unit
     unfolding length_of
-    length-e = subst (λ (i : ℕ). HasValue (length_of e) false i unit) (root-moved n t some) (root_value (sum_of_squares e) (n * 2 ^ (t + t)) sum-e (mul-pos some (pow_pos (t + t))))
+    length_e = subst (λ (i : ℕ). HasValue (length_of e) false i unit) (root_moved n t some) (root_value (sum_of_squares e) (n * 2 ^ (t + t)) sum_e (mul-pos some (pow_pos (t + t))))
 
     divided : (v : D3DVECTOR) (k : ℕ) → HasValue (length_of v) false k unit → 0 < k → over_length v ≡ over v (length_of v)
     unfolding over_length
@@ -47,10 +47,10 @@ module _ (d e : D3DVECTOR) (r s u : Bool) (a b c t : ℕ)
 
     pub same : over_length d ≡ over_length e
     same =
-        divided d (root n) length-d above
+        divided d (root n) length_d above
         ∙ (λ i. record {
-          x = quotient_same d.x (length_of d) e.x (length_of e) r a (root n) t x length-d x' length-e above i;
-          y = quotient_same d.y (length_of d) e.y (length_of e) s b (root n) t y length-d y' length-e above i;
-          z = quotient_same d.z (length_of d) e.z (length_of e) u c (root n) t z length-d z' length-e above i;
+          x = quotient_same d.x (length_of d) e.x (length_of e) r a (root n) t x length_d x' length_e above i;
+          y = quotient_same d.y (length_of d) e.y (length_of e) s b (root n) t y length_d y' length_e above i;
+          z = quotient_same d.z (length_of d) e.z (length_of e) u c (root n) t z length_d z' length_e above i;
         })
-        ∙ sym (divided e (root n * 2 ^ t) length-e (mul-pos above (pow_pos t)))
+        ∙ sym (divided e (root n * 2 ^ t) length_e (mul-pos above (pow_pos t)))

@@ -64,31 +64,31 @@ module _ (x y z : Float) (s t u : Bool) (a b c : ℕ) (X : HasValue x s a unit) 
   vz : square c < limit → HasValue (times z z) false (square c) unit
   vz C = valued (times z z) (c * c) (2 ^ 298) (square_is z u c Z) C
 
-  xy-is : square a < limit → square b < limit → plus (plus neg_zero (times x x)) (times y y) ≡ round binary32 false (square a + square b) unit
-  xy-is A B = plus_is (plus neg_zero (times x x)) (times y y) (square a) (square b) (vx A) (vy B)
+  xy_is : square a < limit → square b < limit → plus (plus neg_zero (times x x)) (times y y) ≡ round binary32 false (square a + square b) unit
+  xy_is A B = plus_is (plus neg_zero (times x x)) (times y y) (square a) (square b) (vx A) (vy B)
 
-  all-is : square a < limit → square b < limit → two (square a) (square b) < limit → square c < limit → all ≡ round binary32 false (two (square a) (square b) + square c) unit
+  all_is : square a < limit → square b < limit → two (square a) (square b) < limit → square c < limit → all ≡ round binary32 false (two (square a) (square b) + square c) unit
   unfolding sum_from
-  all-is A B AB C =
+  all_is A B AB C =
       plus_is (plus (plus neg_zero (times x x)) (times y y)) (times z z) (two (square a) (square b)) (square c)
-      (valued (plus (plus neg_zero (times x x)) (times y y)) (square a + square b) unit (xy-is A B) AB) (vz C)
+      (valued (plus (plus neg_zero (times x x)) (times y y)) (square a + square b) unit (xy_is A B) AB) (vz C)
 
-  pub sum-value : total a b c < limit → HasValue all false (total a b c) unit
-  sum-value h =
+  pub sum_value : total a b c < limit → HasValue all false (total a b c) unit
+  sum_value h =
       let below : (p q : ℕ) → two p q < limit → (p < limit) × (q < limit) =
       λ (p q : ℕ) (l : two p q < limit).
       (lt_of_not-le (λ (g : limit ≤ p). not-le_of_lt l (first_below 277 p q g)), lt_of_not-le (λ (g : limit ≤ q). not-le_of_lt l (second_below 277 p q g))) in
       let l = below (two (square a) (square b)) (square c) h in
       let k = below (square a) (square b) l.0 in
-      valued all (two (square a) (square b) + square c) unit (all-is k.0 k.1 l.0 l.1) h
+      valued all (two (square a) (square b) + square c) unit (all_is k.0 k.1 l.0 l.1) h
 
-  pub sum-finite : T (finite all) → total a b c < limit
+  pub sum_finite : T (finite all) → total a b c < limit
   unfolding sum_from
-  sum-finite h =
+  sum_finite h =
       let f = plus_finite (plus (plus neg_zero (times x x)) (times y y)) (times z z) h in
       let g = plus_finite (plus neg_zero (times x x)) (times y y) f.0 in
       let A : square a < limit = bounded (times x x) (a * a) (2 ^ 298) (square_is x s a X) (plus_finite neg_zero (times x x) g.0).1 in
       let B : square b < limit = bounded (times y y) (b * b) (2 ^ 298) (square_is y t b Y) g.1 in
       let C : square c < limit = bounded (times z z) (c * c) (2 ^ 298) (square_is z u c Z) f.1 in
-      let AB : two (square a) (square b) < limit = bounded (plus (plus neg_zero (times x x)) (times y y)) (square a + square b) unit (xy-is A B) f.0 in
-      bounded all (two (square a) (square b) + square c) unit (all-is A B AB C) h
+      let AB : two (square a) (square b) < limit = bounded (plus (plus neg_zero (times x x)) (times y y)) (square a + square b) unit (xy_is A B) f.0 in
+      bounded all (two (square a) (square b) + square c) unit (all_is A B AB C) h

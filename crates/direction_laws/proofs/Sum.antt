@@ -12,7 +12,7 @@ use lib.Ieee.{binary32, size}
 use lib.Ieee.Digits.{size-lt}
 use lib.Ieee.Scale.{grid, grid_scale, normal_of_fraction}
 use borrow.Author.Tests.{leb-true, leb-false}
-use Rattle.float32.proofs.Grid.{unit, Short, power_below, power-above, short, whole_scale}
+use Rattle.float32.proofs.Grid.{unit, Short, power_below, power_above, short, whole_scale}
 use Rattle.direction_laws.proofs.Absorb.{Alike, exactly, small, weaker, joined, sum_above, sum_below}
 
 -- ---- squares
@@ -37,7 +37,7 @@ square_alike n t = go (leb 24 (size (n * n * 2 ^ 149 / 2 ^ 298))) refl
         let r : n * 2 ^ t * (n * 2 ^ t) * 2 ^ 149 < 2 ^ (23 + (t + t)) * 2 ^ 298 =
         lt_of_le_of_lt (le_of_eq (ap (λ (a : ℕ). a * 2 ^ 149) (moved n t) ∙ mul_right_comm (n * n) (2 ^ (t + t)) (2 ^ 149)))
         (lt_of_lt_of_le (mul-lt-mul_of_pos_right l (pow_pos (t + t))) (le_of_eq (mul_right_comm (2 ^ 23) (2 ^ 298) (2 ^ (t + t)) ∙ ap (λ (a : ℕ). a * 2 ^ 298) (sym (pow-add 2 23 (t + t)))))) in
-        small (power-above (n * n) (2 ^ 298) (pow_pos 298) 23 l) (power-above (n * 2 ^ t * (n * 2 ^ t)) (2 ^ 298) (pow_pos 298) (23 + (t + t)) r)
+        small (power_above (n * n) (2 ^ 298) (pow_pos 298) 23 l) (power_above (n * 2 ^ t * (n * 2 ^ t)) (2 ^ 298) (pow_pos 298) (23 + (t + t)) r)
 
 -- zero, or 2 ^ −63 at least: the square is not subnormal
 abbrev pub Large : ℕ → Type 0
@@ -84,14 +84,14 @@ module _ (x y z t : ℕ) where
   abbrev z' : ℕ
   z' = z * 2 ^ t
 
-  two-exact : (p q s : ℕ) → two (p * 2 ^ s) (q * 2 ^ s) ≡ two p q * 2 ^ s
-  two-exact p q s = ap (λ (a : ℕ). grid binary32 a unit) (sym (add-mul p q (2 ^ s))) ∙ whole_scale (p + q) s
+  two_exact : (p q s : ℕ) → two (p * 2 ^ s) (q * 2 ^ s) ≡ two p q * 2 ^ s
+  two_exact p q s = ap (λ (a : ℕ). grid binary32 a unit) (sym (add-mul p q (2 ^ s))) ∙ whole_scale (p + q) s
 
-  pub total-exact : Large x → Large y → Large z → total x' y' z' ≡ total x y z * 2 ^ (t + t)
-  total-exact X Y Z =
+  pub total_exact : Large x → Large y → Large z → total x' y' z' ≡ total x y z * 2 ^ (t + t)
+  total_exact X Y Z =
       let s : ℕ = t + t in
-      ap₂ two (ap₂ two (square_exact x t X) (square_exact y t Y) ∙ two-exact (square x) (square y) s) (square_exact z t Z)
-      ∙ two-exact (two (square x) (square y)) (square z) s
+      ap₂ two (ap₂ two (square_exact x t X) (square_exact y t Y) ∙ two_exact (square x) (square y) s) (square_exact z t Z)
+      ∙ two_exact (two (square x) (square y)) (square z) s
 
   alike : Alike (t + t) 83 (total x y z) (total x' y' z')
   alike =
@@ -102,8 +102,8 @@ module _ (x y z t : ℕ) where
       (joined s 23 (square x) (square x') (square y) (square y') (S x) (S x') (S y) (S y') (square_alike x t) (square_alike y t))
       (weaker s 23 53 (square z) (square z') (lit≤ tt) (square_alike z t))
 
-  pub total-moved : 2 ^ 149 ≤ total x y z → total x' y' z' ≡ total x y z * 2 ^ (t + t)
-  total-moved h = go alike
+  pub total_moved : 2 ^ 149 ≤ total x y z → total x' y' z' ≡ total x y z * 2 ^ (t + t)
+  total_moved h = go alike
     where
       go : Alike (t + t) 83 (total x y z) (total x' y' z') → total x' y' z' ≡ total x y z * 2 ^ (t + t)
       go (exactly e) = e
@@ -135,7 +135,7 @@ reaching a b c h =
 square_small : (n : ℕ) → n < 2 ^ 150 → square n ≤ 2 ^ 151
 square_small n h =
     let l : n ≤ 2 ^ 150 - 1 = le_of_suc-le-suc (lt_of_lt_of_le h (lit≤ tt)) in
-    power-above (n * n) (2 ^ 298) (pow_pos 298) 151 (lt_of_le_of_lt (mul-le-mul_right (2 ^ 149) (mul-le-mul l l)) (lit< {m = (2 ^ 150 - 1) * (2 ^ 150 - 1) * 2 ^ 149} tt))
+    power_above (n * n) (2 ^ 298) (pow_pos 298) 151 (lt_of_le_of_lt (mul-le-mul_right (2 ^ 149) (mul-le-mul l l)) (lit< {m = (2 ^ 150 - 1) * (2 ^ 150 - 1) * 2 ^ 149} tt))
 
 two_small : (j p q : ℕ) → p ≤ 2 ^ j → q ≤ 2 ^ j → two p q ≤ 2 ^ (j + 2)
 two_small j p q h k =

@@ -25,8 +25,8 @@ use Rattle.directions.specs.Scale.{largest, scalable}
 -- ---- a growing function of the larger is the larger of its values
 
 module _ (f : ℕ → ℕ) (grows : (a b : ℕ) → a ≤ b → f a ≤ f b) where
-  pub of-max : (a b : ℕ) → f (max a b) ≡ max (f a) (f b)
-  of-max a b = go (ltb a b) refl
+  pub of_max : (a b : ℕ) → f (max a b) ≡ max (f a) (f b)
+  of_max a b = go (ltb a b) refl
     where
       go : (t : Bool) → ltb a b ≡ t → f (max a b) ≡ max (f a) (f b)
       go true e =
@@ -151,14 +151,14 @@ module _ (d : D3DVECTOR) (h : vectorFits d) where
       (lt_of_le_of_lt (le-max_left x (max y z)) l, lt_of_le_of_lt (le-max_left y z) yz, lt_of_le_of_lt (le-max_right y z) yz)
 
   -- the digits of the largest component
-  pub largest-digits : T (finite d.x) → T (finite d.y) → T (finite d.z) → size (largest d) ≡ digits_of (largest_bits d)
+  pub largest_digits : T (finite d.x) → T (finite d.y) → T (finite d.z) → size (largest d) ≡ digits_of (largest_bits d)
   unfolding largest
-  largest-digits fx fy fz =
-      of-max size size_grows (in_units d.x) (max (in_units d.y) (in_units d.z))
-      ∙ ap (λ (n : ℕ). max (size (in_units d.x)) n) (of-max size size_grows (in_units d.y) (in_units d.z))
+  largest_digits fx fy fz =
+      of_max size size_grows (in_units d.x) (max (in_units d.y) (in_units d.z))
+      ∙ ap (λ (n : ℕ). max (size (in_units d.x)) n) (of_max size size_grows (in_units d.y) (in_units d.z))
       ∙ ap₂ max (digits_of_bits d.x h.x fx) (ap₂ max (digits_of_bits d.y h.y fy) (digits_of_bits d.z h.z fz))
-      ∙ ap (λ (n : ℕ). max (digits_of (magnitude_bits d.x)) n) (sym (of-max digits_of digits_grow (magnitude_bits d.y) (magnitude_bits d.z)))
-      ∙ sym (of-max digits_of digits_grow (magnitude_bits d.x) (max (magnitude_bits d.y) (magnitude_bits d.z)))
+      ∙ ap (λ (n : ℕ). max (digits_of (magnitude_bits d.x)) n) (sym (of_max digits_of digits_grow (magnitude_bits d.y) (magnitude_bits d.z)))
+      ∙ sym (of_max digits_of digits_grow (magnitude_bits d.x) (max (magnitude_bits d.y) (magnitude_bits d.z)))
 
   module _ (below : largest_bits d < 0x7F80_0000) where
     fx : T (finite d.x)
@@ -171,14 +171,14 @@ module _ (d : D3DVECTOR) (h : vectorFits d) where
     fz = below_finite d.z (at_most 0x7F80_0000 below).2
 
     pub digits_are : size (largest d) ≡ digits_of (largest_bits d)
-    digits_are = largest-digits fx fy fz
+    digits_are = largest_digits fx fy fz
 
     test : scalable d ≡ ltb 0 (largest d)
     unfolding scalable
     test = all-hold (finite d.x) (finite d.y) (finite d.z) (ltb 0 (largest d)) fx fy fz
 
-    pub is-scalable : 0 < largest_bits d → scalable d ≡ true
-    is-scalable p = test ∙ lt-ltb 0 (largest d) (size_reaches (largest d) 0 (rw digits_are (digits_above (largest_bits d) p)))
+    pub is_scalable : 0 < largest_bits d → scalable d ≡ true
+    is_scalable p = test ∙ lt-ltb 0 (largest d) (size_reaches (largest d) 0 (rw digits_are (digits_above (largest_bits d) p)))
 
     pub zero-not : largest_bits d ≡ 0 → scalable d ≡ false
     unfolding digits_of size
@@ -186,9 +186,9 @@ module _ (d : D3DVECTOR) (h : vectorFits d) where
         let none : size (largest d) ≤ 0 = le_of_eq (digits_are ∙ ap digits_of e) in
         test ∙ le-ltb 0 (largest d) (le_of_suc-le-suc (lt_of_lt_of_le (size-lt (largest d)) (pow_mono none)))
 
-  pub infinite-not : 0x7F80_0000 ≤ largest_bits d → scalable d ≡ false
+  pub infinite_not : 0x7F80_0000 ≤ largest_bits d → scalable d ≡ false
   unfolding scalable
-  infinite-not l =
+  infinite_not l =
       some_fails (finite d.x) (finite d.y) (finite d.z) (ltb 0 (largest d))
       (λ (fx : T (finite d.x)) (fy : T (finite d.y)) (fz : T (finite d.z)).
       let bx = finite_below d.x h.x fx in

@@ -44,13 +44,13 @@ product z (fin s m e) h f =
 
 -- "Each finite, nonzero view-space direction"
 module _ (d : D3DVECTOR) (h : vectorFits d) (fx : T (finite d.x)) (fy : T (finite d.y)) (fz : T (finite d.z)) (some : 0 < largest d) where
-  is-scaled : scalable d ≡ true
+  is_scaled : scalable d ≡ true
   unfolding scalable
-  is-scaled = all-hold (finite d.x) (finite d.y) (finite d.z) (ltb 0 (largest d)) fx fy fz ∙ lt-ltb 0 (largest d) some
+  is_scaled = all-hold (finite d.x) (finite d.y) (finite d.z) (ltb 0 (largest d)) fx fy fz ∙ lt-ltb 0 (largest d) some
 
-  pub rounded-once : scaled d ≡ record { x = once (size (largest d)) d.x; y = once (size (largest d)) d.y; z = once (size (largest d)) d.z }
+  pub rounded_once : scaled d ≡ record { x = once (size (largest d)) d.x; y = once (size (largest d)) d.y; z = once (size (largest d)) d.z }
   unfolding scaling
-  rounded-once =
+  rounded_once =
       let z = size (largest d) in
-      scaled_if d is-scaled
+      scaled_if d is_scaled
       ∙ (λ i. record { x = product z d.x h.x fx i; y = product z d.y h.y fy i; z = product z d.z h.z fz i })

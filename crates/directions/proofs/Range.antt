@@ -22,8 +22,8 @@ use Rattle.float32.specs.Root.{in_units}
 use Rattle.float32.proofs.Grid.{Short}
 use Rattle.float32.proofs.Units.{counted, units_of}
 use Rattle.directions.specs.Scale.{largest, scaled}
-use Rattle.directions.proofs.Magnitude.{of-max, size_grows}
-use Rattle.directions.proofs.Once.{once, rounded-once}
+use Rattle.directions.proofs.Magnitude.{of_max, size_grows}
+use Rattle.directions.proofs.Once.{once, rounded_once}
 
 -- ---- a float of n units times 2 ^ (150 − z), rounded once
 
@@ -151,12 +151,12 @@ module _ (d : D3DVECTOR) (h : vectorFits d) (fx : T (finite d.x)) (fy : T (finit
   digits : z ≡ max (size (in_units d.x)) (max (size (in_units d.y)) (size (in_units d.z)))
   unfolding largest
   digits =
-      of-max size size_grows (in_units d.x) (max (in_units d.y) (in_units d.z))
-      ∙ ap (λ (n : ℕ). max (size (in_units d.x)) n) (of-max size size_grows (in_units d.y) (in_units d.z))
+      of_max size size_grows (in_units d.x) (max (in_units d.y) (in_units d.z))
+      ∙ ap (λ (n : ℕ). max (size (in_units d.x)) n) (of_max size size_grows (in_units d.y) (in_units d.z))
 
-  scaled-is : largest (scaled d) ≡ max (in_units (once z d.x)) (max (in_units (once z d.y)) (in_units (once z d.z)))
+  scaled_is : largest (scaled d) ≡ max (in_units (once z d.x)) (max (in_units (once z d.y)) (in_units (once z d.z)))
   unfolding largest
-  scaled-is = ap largest (rounded-once d h fx fy fz some)
+  scaled_is = ap largest (rounded_once d h fx fy fz some)
 
   below : max (in_units (once z d.x)) (max (in_units (once z d.y)) (in_units (once z d.z))) < 2 ^ 150
   below =
@@ -182,5 +182,5 @@ module _ (d : D3DVECTOR) (h : vectorFits d) (fx : T (finite d.x)) (fy : T (finit
       (le-max_right _ _))
       (one_of a (max b c))
 
-  pub largest-in-range : (2 ^ 149 ≤ largest (scaled d)) × (largest (scaled d) < 2 ^ 150)
-  largest-in-range = rw scaled-is (above, below)
+  pub largest_in_range : (2 ^ 149 ≤ largest (scaled d)) × (largest (scaled d) < 2 ^ 150)
+  largest_in_range = rw scaled_is (above, below)

@@ -18,7 +18,7 @@ use Rattle.float32.proofs.Laws.{size_is}
 use Rattle.matrix.specs.Sum.{times}
 use Rattle.directions.specs.Magnitude.{magnitude_bits, largest_bits, power_of_two}
 use Rattle.directions.specs.Scale.{largest, scalable, digits_of_one, scaling, scaled_by, scaled}
-use Rattle.directions.proofs.Magnitude.{digits_of, digits_subnormal, digits_normal, below_finite, subnormal_few, at_most, digits_are, is-scalable, zero-not, infinite-not}
+use Rattle.directions.proofs.Magnitude.{digits_of, digits_subnormal, digits_normal, below_finite, subnormal_few, at_most, digits_are, is_scalable, zero-not, infinite_not}
 use Rattle.directions.proofs.Power.{minus_same, minus_pos, times_twice}
 
 pub scaled_if : (d : D3DVECTOR) → scalable d ≡ true → scaled d ≡ scaled_by (scaling d) d
@@ -56,24 +56,24 @@ leading b p l =
     (rw (size_is b t.0 t.2 t.3) t.1, size-le b 23 l)
 
 module _ (d : D3DVECTOR) (h : vectorFits d) (b : ℕ) (is : b ≡ largest_bits d) where
-  pub stays-zero : b ≡ 0 → d ≡ scaled d
-  stays-zero e = sym (scaled-not d (zero-not d h (omega arith) (sym is ∙ e)))
+  pub stays_zero : b ≡ 0 → d ≡ scaled d
+  stays_zero e = sym (scaled-not d (zero-not d h (omega arith) (sym is ∙ e)))
 
-  pub stays-infinite : 0x7F80_0000 ≤ b → d ≡ scaled d
-  stays-infinite l = sym (scaled-not d (infinite-not d h (omega arith)))
+  pub stays_infinite : 0x7F80_0000 ≤ b → d ≡ scaled d
+  stays_infinite l = sym (scaled-not d (infinite_not d h (omega arith)))
 
   module _ (above : 0 < b) (below : b < 0x7F80_0000) where
-    by-power : (n : ℕ) → digits_of b ≡ n → scaled d ≡ scaled_by (power (minus digits_of_one n)) d
-    by-power n e =
+    by_power : (n : ℕ) → digits_of b ≡ n → scaled d ≡ scaled_by (power (minus digits_of_one n)) d
+    by_power n e =
         let l : largest_bits d < 0x7F80_0000 = omega arith in
-        scaled_if d (is-scalable d h l (omega arith))
+        scaled_if d (is_scalable d h l (omega arith))
         ∙ ap (λ (p : Float). scaled_by p d) (scaling_is d n (digits_are d h l ∙ ap digits_of (sym is) ∙ e))
 
     pub normal : 2 ^ 23 ≤ b → (n : ℕ) (p : Float) → p ≡ power_of_two n → n + (b / 2 ^ 23 + 23) ≡ digits_of_one + 127 → scaled_by p d ≡ scaled d
     unfolding power_of_two
     normal l n p e sum =
         ap (λ (q : Float). scaled_by q d) (e ∙ ap power (minus_same n 127 digits_of_one (b / 2 ^ 23 + 23) sum))
-        ∙ sym (by-power (b / 2 ^ 23 + 23) (digits_normal b l))
+        ∙ sym (by_power (b / 2 ^ 23 + 23) (digits_normal b l))
 
     pub subnormal : b < 2 ^ 23 → (n : ℕ) (p q : Float) → p ≡ power_of_two 254 → q ≡ power_of_two n → 127 ≤ n → n + size b ≡ digits_of_one
         → scaled_by q (scaled_by p d) ≡ scaled d
@@ -88,4 +88,4 @@ module _ (d : D3DVECTOR) (h : vectorFits d) (b : ℕ) (is : b ≡ largest_bits d
         λ (x : Float) (v : float_fits x) (g : magnitude_bits x < 2 ^ 23).
         rw (e, q-is) (times_twice x i v (below_finite x (omega arith)) (subnormal_few x v g)) ∙ ap (times x) whole in
         (λ k. record { x = one d.x h.x each.0 k; y = one d.y h.y each.1 k; z = one d.z h.z each.2 k })
-        ∙ sym (by-power (size b) (digits_subnormal b l))
+        ∙ sym (by_power (size b) (digits_subnormal b l))

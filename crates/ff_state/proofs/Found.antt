@@ -12,7 +12,7 @@ use Rattle.ff_state.specs.declared.state.FfState.{FfState}
 use Rattle.light_table.specs.declared.entry.OverflowLight.{OverflowLight}
 use Rattle.light_table.specs.declared.overflow.Found.{Found}
 use Rattle.lemmas.proofs.Lists.{get_d_default}
-use Rattle.light_table.proofs.LowerBound.{used_most, bound_most, stored-below}
+use Rattle.light_table.proofs.LowerBound.{used_most, bound_most, stored_below}
 
 -- the code's search, of the count as it reads and the entries before it
 pub searched : (s : FfState) (i n : ℕ) (f : Found) → n ≡ used_count s.overflow_count → f ≡ find_entry (take n s.overflow_lights) i → f ≡ found s i
@@ -27,27 +27,27 @@ module _ (s : FfState) where
   counted : length (used s) ≤ used_count s.overflow_count
   counted = omega (arith, length-take (used_count s.overflow_count) s.overflow_lights)
 
-  at-most-56 : length (used s) ≤ 56
-  at-most-56 = omega (arith, counted, used_most (used_count s.overflow_count) s.overflow_count refl)
+  at_most_56 : length (used s) ≤ 56
+  at_most_56 = omega (arith, counted, used_most (used_count s.overflow_count) s.overflow_count refl)
 
   module _ (i : ℕ) (f : Found) (e : f ≡ found s i) where
     place_end : f.at ≤ length (used s)
     unfolding found find_entry
     place_end = omega (arith, ap (λ (g : Found). g.at) e, bound_most (used s) i)
 
-    pub place-used-most : f.at ≤ used_count s.overflow_count
-    place-used-most = omega (arith, place_end, counted)
+    pub place_used_most : f.at ≤ used_count s.overflow_count
+    place_used_most = omega (arith, place_end, counted)
 
-    pub place-most : f.at ≤ 56
-    place-most = omega (arith, place_end, at-most-56)
+    pub place_most : f.at ≤ 56
+    place_most = omega (arith, place_end, at_most_56)
 
     module _ (stored : f.stored ≡ true) where
-      place-used : f.at < length (used s)
+      place_used : f.at < length (used s)
       unfolding found
-      place-used = subst (λ (g : Found). g.at < length (used s)) (sym e) (stored-below (used s) i (ap (λ (g : Found). g.stored) (sym e) ∙ stored))
+      place_used = subst (λ (g : Found). g.at < length (used s)) (sym e) (stored_below (used s) i (ap (λ (g : Found). g.stored) (sym e) ∙ stored))
 
-      pub place-below : f.at < 56
-      place-below = omega (arith, place-used, at-most-56)
+      pub place_below : f.at < 56
+      place_below = omega (arith, place_used, at_most_56)
 
-      pub entry-there : (d : OverflowLight) → get_or s.overflow_lights f.at d ≡ stored_entry s f.at
-      entry-there d = get_d_default s.overflow_lights f.at d zero_entry (omega (arith, place-used, in_use))
+      pub entry_there : (d : OverflowLight) → get_or s.overflow_lights f.at d ≡ stored_entry s f.at
+      entry_there d = get_d_default s.overflow_lights f.at d zero_entry (omega (arith, place_used, in_use))

@@ -17,22 +17,22 @@ use Rattle.light_table.specs.declared.entry.OverflowLight.{OverflowLight}
 use Rattle.ff_state.specs.declared.lights.LightAnswer.TheVariants.{Full}
 use Rattle.ff_state.specs.declared.lights.LightChanged.{LightChanged}
 use Rattle.light_table.proofs.LowerBound.{used_most}
-use Rattle.ff_state.proofs.Found.{place-used-most}
+use Rattle.ff_state.proofs.Found.{place_used_most}
 
 -- one call of four outcomes: the slot, the entry there is, one more, none
 module _ (low stored free near : Bool) (a b c d : LightChanged) where
   abbrev outcome : LightChanged
   outcome = cond low a (cond stored b (cond (free && near) c d))
 
-answer-of : (low stored free near : Bool) (a b c d : LightChanged) → (free ≡ true → near ≡ true)
+answer_of : (low stored free near : Bool) (a b c d : LightChanged) → (free ≡ true → near ≡ true)
     → light_number a.answer ≡ 0 → light_number b.answer ≡ 0 → light_number c.answer ≡ 0 → light_number d.answer ≡ 3
     → light_number (outcome low stored free near a b c d).answer ≡ cond (low || (free || stored)) 0 3
-answer-of true stored free near a b c d n p q r t = p
-answer-of false true true near a b c d n p q r t = q
-answer-of false true false near a b c d n p q r t = q
-answer-of false false true true a b c d n p q r t = r
-answer-of false false true false a b c d n p q r t = absurd (false≢true (n refl))
-answer-of false false false near a b c d n p q r t = t
+answer_of true stored free near a b c d n p q r t = p
+answer_of false true true near a b c d n p q r t = q
+answer_of false true false near a b c d n p q r t = q
+answer_of false false true true a b c d n p q r t = r
+answer_of false false true false a b c d n p q r t = absurd (false≢true (n refl))
+answer_of false false false near a b c d n p q r t = t
 
 last_of : (low stored free near : Bool) (a b c d : LightChanged) → (low || (free || stored)) ≡ false → outcome low stored free near a b c d ≡ d
 last_of true stored free near a b c d h = absurd (true≢false h)
@@ -58,9 +58,9 @@ module _ (s : FfState) (i : ℕ) where
       let least = ltb-false (used_count s.overflow_count) 56 q.0 in
       record { beyond = ltb-false i 8 p.0; absent = q.1; full = omega arith }
 
-  pub no-room-if : NoRoom → has_room s i ≡ false
+  pub no_room_if : NoRoom → has_room s i ≡ false
   unfolding has_room
-  no-room-if n = rw (le-ltb i 8 n.beyond, n.full, n.absent)
+  no_room_if n = rw (le-ltb i 8 n.beyond, n.full, n.absent)
 
   -- what both calls are: a slot's change, or an entry's
   module _ (t : FfState) (change : OverflowLight → OverflowLight) (made : OverflowLight) where
@@ -69,8 +69,8 @@ module _ (s : FfState) (i : ℕ) where
 
     answer : light_number call.answer ≡ cond (has_room s i) 0 3
     unfolding has_room change_entry insert_entry replace_entry light_number
-    answer = answer-of (ltb i 8) (found s i).stored (ltb (used_count s.overflow_count) 56) (ltb (found s i).at 56) _ _ _ _
-        (λ (f : ltb (used_count s.overflow_count) 56 ≡ true). lt-ltb (found s i).at 56 (omega (arith, ltb-true (used_count s.overflow_count) 56 f, place-used-most s i (found s i) refl)))
+    answer = answer_of (ltb i 8) (found s i).stored (ltb (used_count s.overflow_count) 56) (ltb (found s i).at 56) _ _ _ _
+        (λ (f : ltb (used_count s.overflow_count) 56 ≡ true). lt-ltb (found s i).at 56 (omega (arith, ltb-true (used_count s.overflow_count) 56 f, place_used_most s i (found s i) refl)))
         refl refl refl refl
 
     unchanged : has_room s i ≡ false → call ≡ room_refusal s
@@ -87,10 +87,10 @@ module _ (s : FfState) (i : ℕ) where
     set-refused = unchanged (set_slot s i l) (λ e. light_entry e.index e.enabled l) (light_entry i 0 l)
 
   module _ (on : Bool) where
-    pub enable-answer : light_number (set_light_enabled_at s i on).answer ≡ cond (has_room s i) 0 3
+    pub enable_answer : light_number (set_light_enabled_at s i on).answer ≡ cond (has_room s i) 0 3
     unfolding set_light_enabled_at
-    enable-answer = answer (enable_slot s i on) (λ e. light_entry e.index (flag on) e.light) (light_entry i (flag on) default_light)
+    enable_answer = answer (enable_slot s i on) (λ e. light_entry e.index (flag on) e.light) (light_entry i (flag on) default_light)
 
-    pub enable-refused : has_room s i ≡ false → set_light_enabled_at s i on ≡ room_refusal s
+    pub enable_refused : has_room s i ≡ false → set_light_enabled_at s i on ≡ room_refusal s
     unfolding set_light_enabled_at
-    enable-refused = unchanged (enable_slot s i on) (λ e. light_entry e.index (flag on) e.light) (light_entry i (flag on) default_light)
+    enable_refused = unchanged (enable_slot s i on) (λ e. light_entry e.index (flag on) e.light) (light_entry i (flag on) default_light)

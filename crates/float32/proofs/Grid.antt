@@ -55,8 +55,8 @@ module _ (a c : ℕ) (C : 0 < c) where
       let q : 2 ^ i ≤ a * 2 ^ 149 / u = subst (λ (x : ℕ). 2 ^ i ≤ x) cut ((le-div_iff_mul-le (pow_pos k)).1 (le_trans (le_of_eq (sym (pow-add 2 i k))) reach)) in
       le_trans (pow_mono {i = j} {j = i + k} (omega arith)) (le_trans (le_of_eq (pow-add 2 i k)) (mul-le-mul_right (2 ^ k) (le_trans q (nearest-ge (a * 2 ^ 149 / u) half))))
 
-  pub power-above : (j : ℕ) → a * 2 ^ 149 < 2 ^ j * c → grid binary32 a c ≤ 2 ^ j
-  power-above j h =
+  pub power_above : (j : ℕ) → a * 2 ^ 149 < 2 ^ j * c → grid binary32 a c ≤ 2 ^ j
+  power_above j h =
       let i : ℕ = size w - k in
       let few : size w ≤ j = size-le w j ((div-lt_iff_lt-mul C).1 h) in
       let whole : size w ≡ i + k = omega arith in

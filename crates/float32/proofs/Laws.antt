@@ -5,7 +5,7 @@ use lib.Ieee.{Float, binary32, fits, lt, is_nan}
 use lib.Ieee.Fits.{cond-fits}
 use Rattle.float32.specs.Larger.{larger}
 pub use Rattle.float32.proofs.root.Values.{size_is, root_of_value}
-pub use Rattle.float32.proofs.root.Laws.{units_of_value, sqrt_nearest, sqrt_only, sqrt_exact, sqrt-normal, sqrt_fits, sqrt_unsigned}
+pub use Rattle.float32.proofs.root.Laws.{units_of_value, sqrt_nearest, sqrt_only, sqrt_exact, sqrt_normal, sqrt_fits, sqrt_unsigned}
 pub use Rattle.float32.proofs.cosine.Laws.{cos_fits}
 pub use Rattle.float32.proofs.cosine.Magnitude.{magnitude-bits}
 

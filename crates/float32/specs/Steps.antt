@@ -1,5 +1,5 @@
 -- What each of the three steps of src/root.rt finds, with the clauses of IEEE 754-2019 that it follows (cited from general knowledge: docs/DECISIONS.md). Document 02, T-06.
--- proofs/root/Steps: the first step's answers are `sqrt_of` (`sorted`), and what the second finds, rounded by the third, is too (`exact-rounded`).
+-- proofs/root/Steps: the first step's answers are `sqrt_of` (`sorted`), and what the second finds, rounded by the third, is too (`exact_rounded`).
 use Rattle.std.specs.Prelude.{ℕ, zero, suc, ◌+◌, ◌*◌, ◌^◌, ◌≤◌, ◌<◌, ◌≡◌, Bool, false, cond, leb, Float}
 use Rattle.std.specs.Float.{nan, inf, fin, binary32}
 use Rattle.std.specs.Float.Ieee.{odd, to_bits}

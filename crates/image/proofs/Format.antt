@@ -19,23 +19,23 @@ use Rattle.image_reasons.specs.Length.{image_length}
 use Rattle.image_lists.proofs.Entry.{length-entry_bytes}
 use Rattle.image.specs.Table.{Tiles}
 use Rattle.image.specs.Format.{image_table, image_bytes, Sized}
-use Rattle.image_lists.proofs.Writing.{length-listBytes}
+use Rattle.image_lists.proofs.Writing.{length_list_bytes}
 use Rattle.image.proofs.Held.{AllHold, tiles_hold}
 use Rattle.image.proofs.Table.{length-table_bytes}
 
 module _ (s : FfState) (z : Sized s) where
-  pub image-tiles : Tiles 0 (image_table s) image_length
+  pub image_tiles : Tiles 0 (image_table s) image_length
   unfolding image_table
-  image-tiles =
+  image_tiles =
       rw (
         length-matrix_bytes s.view,
         length-matrix_bytes s.projection,
-        length-listBytes matrix_bytes 64 length-matrix_bytes s.world_palette,
+        length_list_bytes matrix_bytes 64 length-matrix_bytes s.world_palette,
         z.palette,
-        length-listBytes matrix_bytes 64 length-matrix_bytes s.texture_transforms,
+        length_list_bytes matrix_bytes 64 length-matrix_bytes s.texture_transforms,
         z.texture,
         length-material_bytes s.material,
-        length-listBytes light_bytes 104 length-light_bytes s.lights,
+        length_list_bytes light_bytes 104 length-light_bytes s.lights,
         z.lights,
         length-little_bytes 1 s.light_enabled,
         length-little_bytes 1 s.light_defined_mask,
@@ -43,21 +43,21 @@ module _ (s : FfState) (z : Sized s) where
         length-little_bytes 1 0,
         length-little_bytes 2 s.world_palette_high_water,
         length-little_bytes 2 s.overflow_count,
-        length-listBytes entry_bytes 112 length-entry_bytes s.overflow_lights,
+        length_list_bytes entry_bytes 112 length-entry_bytes s.overflow_lights,
         z.overflow,
         length-states_bytes s.render_states,
         length-little_bytes 4 s.tt_active_mask,
       )
       (refl, (refl, (refl, (refl, (refl, (refl, (refl, (refl, (refl, (refl, (refl, (refl, (refl, (refl, (refl, refl)))))))))))))))
 
-  pub length-imageBytes : length (image_bytes s) ≡ image_length
+  pub length_image_bytes : length (image_bytes s) ≡ image_length
   unfolding image_bytes
-  length-imageBytes = sym (zero-add (length (image_bytes s))) ∙ length-table_bytes 0 image_length (image_table s) image-tiles
+  length_image_bytes = sym (zero-add (length (image_bytes s))) ∙ length-table_bytes 0 image_length (image_table s) image_tiles
 
   -- each field's bytes stand at its place
   pub image_holds : AllHold (image_bytes s) (image_table s)
   unfolding image_bytes
-  image_holds = tiles_hold 0 image_length (image_table s) [] refl image-tiles
+  image_holds = tiles_hold 0 image_length (image_table s) [] refl image_tiles
 
 pub valid_sized : {s : FfState} → Valid s → Sized s
 valid_sized v =

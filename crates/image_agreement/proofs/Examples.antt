@@ -24,9 +24,9 @@ use Rattle.image_model.specs.Abstract.{image_abstract}
 use Rattle.image.specs.Format.{image_bytes}
 use Rattle.image.specs.Read.{state_of}
 use Rattle.image.proofs.Format.{valid_sized}
-use Rattle.image_laws.proofs.Fields.{written, number-reads}
+use Rattle.image_laws.proofs.Fields.{written, number_reads}
 use Rattle.image_laws.proofs.IsAt.{held_is, join}
-use Rattle.image_laws.proofs.ReadWritten.{read-written}
+use Rattle.image_laws.proofs.ReadWritten.{read_written}
 use Rattle.image_laws.proofs.ValidAccepted.{valid_accepted}
 use Rattle.image_agreement.specs.Reachable.{Change, operates, changed, changed_all}
 use Rattle.image_agreement.proofs.Reachable.{reachable_valid}
@@ -63,7 +63,7 @@ tail_bytes =
 
 -- the mask 255 among them is read
 pub tail_read : (refused (image_bytes five) ≡ false) × (state_of (image_bytes five) ≡ five)
-tail_read = (valid_accepted five five_valid, read-written five five_valid)
+tail_read = (valid_accepted five five_valid, read_written five five_valid)
 
 pub tail_held : Agrees five (image_abstract (image_bytes five))
 tail_held = written_agrees five five_valid
@@ -71,4 +71,4 @@ tail_held = written_agrees five five_valid
 -- "any dirty byte is read"; "A fresh state has … all eight bits"
 pub fresh_dirty_byte : (number_at 1 (image_bytes fresh_state) 17_926 ≡ 255) × (refused (image_bytes fresh_state) ≡ false)
 unfolding fresh_state
-fresh_dirty_byte = (number-reads 1 255 (omega arith) (written fresh_state (valid_sized fresh_valid)).dirty, valid_accepted fresh_state fresh_valid)
+fresh_dirty_byte = (number_reads 1 255 (omega arith) (written fresh_state (valid_sized fresh_valid)).dirty, valid_accepted fresh_state fresh_valid)

@@ -8,13 +8,13 @@ use Rattle.agreement.proofs.Dirty.{taken_valid}
 use Rattle.agreement.proofs.Fresh.{fresh_valid}
 use Rattle.agreement.proofs.Kept.{valid_kept}
 use Rattle.image_agreement.specs.Reachable.{Change, operates, takes, reads_in, changed, changed_all, ChangeFits, AllFit, Reachable}
-use Rattle.image_agreement.proofs.ReadIn.{read-valid-kept}
+use Rattle.image_agreement.proofs.ReadIn.{read_valid_kept}
 
 change_valid : {s : FfState} (c : Change) → ChangeFits c → Valid s → Valid (changed s c)
 unfolding changed
 change_valid (operates op) f v = valid_kept v op f
 change_valid takes f v = taken_valid v
-change_valid {s} (reads_in bytes) f v = read-valid-kept s bytes f v
+change_valid {s} (reads_in bytes) f v = read_valid_kept s bytes f v
 
 all_valid : (s : FfState) (cs : List Change) → AllFit cs → Valid s → Valid (changed_all s cs)
 unfolding changed_all

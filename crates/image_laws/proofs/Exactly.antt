@@ -27,7 +27,7 @@ use Rattle.image.specs.Table.{Field, table_bytes}
 use Rattle.image_laws.specs.Exactly.{IsAccepted, IsWriting}
 use Rattle.image_laws.proofs.IsAt.{◌also◌}
 use Rattle.image_laws.proofs.Words.{word_bytes, matrix-words, material-words, light-words, entry_words, states_words}
-use Rattle.image_laws.proofs.ReadWritten.{read-written}
+use Rattle.image_laws.proofs.ReadWritten.{read_written}
 use Rattle.image_laws.proofs.ValidAccepted.{valid_accepted}
 use Rattle.image_laws.proofs.AcceptedValid.{accepted_valid}
 use Rattle.image_laws.proofs.WrittenRead.{written_read}
@@ -101,20 +101,20 @@ image-bytes s =
 -- ---- both directions
 
 module _ (bytes : List ℕ) where
-  accepted-written : IsAccepted bytes → IsWriting bytes
-  accepted-written a =
+  accepted_written : IsAccepted bytes → IsWriting bytes
+  accepted_written a =
       record { state = state_of bytes; valid = accepted_valid bytes a.each a.taken; is = written_read bytes a.each a.taken }
 
-  written-accepted : IsWriting bytes → IsAccepted bytes
-  written-accepted w =
+  written_accepted : IsWriting bytes → IsAccepted bytes
+  written_accepted w =
       record {
         each = subst Bytes w.is (image-bytes w.state);
         taken = subst (λ (bs : List ℕ). refused bs ≡ false) w.is (valid_accepted w.state w.valid);
       }
 
-  pub accepted-exactly : IsAccepted bytes ↔ IsWriting bytes
-  accepted-exactly = (accepted-written, written-accepted)
+  pub accepted_exactly : IsAccepted bytes ↔ IsWriting bytes
+  accepted_exactly = (accepted_written, written_accepted)
 
   -- of one state only, the one that is read
   pub one_state : (w : IsWriting bytes) → state_of bytes ≡ w.state
-  one_state w = ap state_of (sym w.is) ∙ read-written w.state w.valid
+  one_state w = ap state_of (sym w.is) ∙ read_written w.state w.valid

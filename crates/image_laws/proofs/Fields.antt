@@ -31,7 +31,7 @@ use Rattle.image_lists.specs.Entry.{entry_bytes, entry_at}
 use Rattle.image_lists.specs.Lists.{list_bytes, list_at}
 use Rattle.image_lists.proofs.Back.{entryFits, matrices_start, lights_start, entries_start}
 use Rattle.image_lists.proofs.Entry.{entry_at_skips}
-use Rattle.image_lists.proofs.Reading.{listAt-skips}
+use Rattle.image_lists.proofs.Reading.{list_at_skips}
 use Rattle.image.specs.Format.{image_bytes, image_table, Sized}
 use Rattle.image.specs.Table.{field}
 use Rattle.image.proofs.Format.{image_holds}
@@ -94,34 +94,34 @@ written s z =
 -- ---- what a field that stands at its place reads as
 
 module _ {bytes : List ℕ} {at : ℕ} where
-  pub number-reads : (k n : ℕ) → n < 256 ^ k → HoldsField bytes (field at (little_bytes k n)) → number_at k bytes at ≡ n
-  number-reads k n less = held_reads (number_at k) (number_at_skips k) (number_at_starts k n less)
+  pub number_reads : (k n : ℕ) → n < 256 ^ k → HoldsField bytes (field at (little_bytes k n)) → number_at k bytes at ≡ n
+  number_reads k n less = held_reads (number_at k) (number_at_skips k) (number_at_starts k n less)
 
   -- a byte's number in four bytes
-  pub mask-reads : {n : ℕ} → n < 256 → HoldsField bytes (field at (little_bytes 4 n)) → number_at 4 bytes at ≡ n
-  mask-reads {n} less = number-reads 4 n (omega arith)
+  pub mask_reads : {n : ℕ} → n < 256 → HoldsField bytes (field at (little_bytes 4 n)) → number_at 4 bytes at ≡ n
+  mask_reads {n} less = number_reads 4 n (omega arith)
 
-  pub matrix-reads : {m : D3DMATRIX} → matrixFits m → HoldsField bytes (field at (matrix_bytes m)) → matrix_at bytes at ≡ m
-  matrix-reads fits = held_reads matrix_at matrix_at_skips (matrix_at_starts fits)
+  pub matrix_reads : {m : D3DMATRIX} → matrixFits m → HoldsField bytes (field at (matrix_bytes m)) → matrix_at bytes at ≡ m
+  matrix_reads fits = held_reads matrix_at matrix_at_skips (matrix_at_starts fits)
 
-  pub material-reads : {m : D3DMATERIAL9} → materialFits m → HoldsField bytes (field at (material_bytes m)) → material_at bytes at ≡ m
-  material-reads fits = held_reads material_at material_at_skips (material_at_starts fits)
+  pub material_reads : {m : D3DMATERIAL9} → materialFits m → HoldsField bytes (field at (material_bytes m)) → material_at bytes at ≡ m
+  material_reads fits = held_reads material_at material_at_skips (material_at_starts fits)
 
-  pub states-read : {r : RenderStates} → statesFit r → HoldsField bytes (field at (states_bytes r)) → states_at bytes at ≡ r
-  states-read fits = held_reads states_at states_at_skips (states_at_starts fits)
+  pub states_read : {r : RenderStates} → statesFit r → HoldsField bytes (field at (states_bytes r)) → states_at bytes at ≡ r
+  states_read fits = held_reads states_at states_at_skips (states_at_starts fits)
 
   -- a list of n items, each of which fits
-  pub matrices-read : (n : ℕ) (ms : List D3DMATRIX) → length ms ≡ n → ((i : ℕ) → i < n → matrixFits (get_or ms i no_matrix)) → HoldsField bytes (field at (list_bytes matrix_bytes ms))
+  pub matrices_read : (n : ℕ) (ms : List D3DMATRIX) → length ms ≡ n → ((i : ℕ) → i < n → matrixFits (get_or ms i no_matrix)) → HoldsField bytes (field at (list_bytes matrix_bytes ms))
       → list_at matrix_at 64 n bytes at ≡ ms
-  matrices-read n ms e fits =
-      held_reads (list_at matrix_at 64 n) (listAt-skips matrix_at 64 matrix_at_skips n) (rw e at (matrices_start no_matrix ms (rw e fits)))
+  matrices_read n ms e fits =
+      held_reads (list_at matrix_at 64 n) (list_at_skips matrix_at 64 matrix_at_skips n) (rw e at (matrices_start no_matrix ms (rw e fits)))
 
-  pub lights-read : (n : ℕ) (ls : List D3DLIGHT9) → length ls ≡ n → ((i : ℕ) → i < n → lightFits (get_or ls i default_light)) → HoldsField bytes (field at (list_bytes light_bytes ls))
+  pub lights_read : (n : ℕ) (ls : List D3DLIGHT9) → length ls ≡ n → ((i : ℕ) → i < n → lightFits (get_or ls i default_light)) → HoldsField bytes (field at (list_bytes light_bytes ls))
       → list_at light_at 104 n bytes at ≡ ls
-  lights-read n ls e fits =
-      held_reads (list_at light_at 104 n) (listAt-skips light_at 104 light_at_skips n) (rw e at (lights_start default_light ls (rw e fits)))
+  lights_read n ls e fits =
+      held_reads (list_at light_at 104 n) (list_at_skips light_at 104 light_at_skips n) (rw e at (lights_start default_light ls (rw e fits)))
 
-  pub entries-read : (n : ℕ) (es : List OverflowLight) → length es ≡ n → ((i : ℕ) → i < n → entryFits (get_or es i zero_entry)) → HoldsField bytes (field at (list_bytes entry_bytes es))
+  pub entries_read : (n : ℕ) (es : List OverflowLight) → length es ≡ n → ((i : ℕ) → i < n → entryFits (get_or es i zero_entry)) → HoldsField bytes (field at (list_bytes entry_bytes es))
       → list_at entry_at 112 n bytes at ≡ es
-  entries-read n es e fits =
-      held_reads (list_at entry_at 112 n) (listAt-skips entry_at 112 entry_at_skips n) (rw e at (entries_start zero_entry es (rw e fits)))
+  entries_read n es e fits =
+      held_reads (list_at entry_at 112 n) (list_at_skips entry_at 112 entry_at_skips n) (rw e at (entries_start zero_entry es (rw e fits)))

@@ -49,25 +49,25 @@ module _ (v w bytes : List ℕ) (at : ℕ) where
 -- ---- items of one width
 
 module _ {A : Type 0} (write : A → List ℕ) (size : ℕ) (wide : (x : A) → length (write x) ≡ size) where
-  pub item-is : (bytes : List ℕ) (d : A) (xs : List A) (at k : ℕ) → IsAt (list_bytes write xs) bytes at → k < length xs → IsAt (write (get_or xs k d)) bytes (at + size * k)
+  pub item_is : (bytes : List ℕ) (d : A) (xs : List A) (at k : ℕ) → IsAt (list_bytes write xs) bytes at → k < length xs → IsAt (write (get_or xs k d)) bytes (at + size * k)
   unfolding list_bytes
-  item-is bytes d [] at k h l = absurd (omega arith)
-  item-is bytes d (x ∷ xs) at zero h l = let e : at + size * 0 ≡ at = omega arith in rw e (front (write x) (list_bytes write xs) bytes at h)
-  item-is bytes d (x ∷ xs) at (suc k) h l =
+  item_is bytes d [] at k h l = absurd (omega arith)
+  item_is bytes d (x ∷ xs) at zero h l = let e : at + size * 0 ≡ at = omega arith in rw e (front (write x) (list_bytes write xs) bytes at h)
+  item_is bytes d (x ∷ xs) at (suc k) h l =
       let e : at + size * suc k ≡ at + length (write x) + size * k = rw (mul-suc, wide x) (omega arith) in
-      rw e (item-is bytes d xs (at + length (write x)) k (behind (write x) (list_bytes write xs) bytes at h) (omega arith))
+      rw e (item_is bytes d xs (at + length (write x)) k (behind (write x) (list_bytes write xs) bytes at h) (omega arith))
 
-  pub list-is : (read : List ℕ → ℕ → A) (bytes : List ℕ) (n at : ℕ) → ((i : ℕ) → i < n → IsAt (write (read bytes (at + size * i))) bytes (at + size * i))
+  pub list_is : (read : List ℕ → ℕ → A) (bytes : List ℕ) (n at : ℕ) → ((i : ℕ) → i < n → IsAt (write (read bytes (at + size * i))) bytes (at + size * i))
       → IsAt (list_bytes write (list_at read size n bytes at)) bytes at
   unfolding list_bytes list_at
-  list-is read bytes zero at h = refl
-  list-is read bytes (suc n) at h =
+  list_is read bytes zero at h = refl
+  list_is read bytes (suc n) at h =
       let e₀ : at + size * 0 ≡ at = omega arith in
       let x = read bytes at in
       let rest = list_at read size n bytes (at + size) in
       join (write x) (list_bytes write rest) bytes at (rw e₀ at (h 0 (omega arith)))
       (rw (wide x)
-      (list-is read bytes n (at + size)
+      (list_is read bytes n (at + size)
       (λ (i : ℕ) (l : i < n).
       let e : at + size + size * i ≡ at + size * suc i = rw mul-suc (omega arith) in
       rw e (h (suc i) (omega arith)))))

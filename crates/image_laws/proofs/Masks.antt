@@ -20,14 +20,14 @@ module _ (p : ℕ → Bool) where
       let less : mask_of n p < 2 ^ n = mask_lt n in
       with_bit_lt (suc n) (mask_of n p) n (p n) (omega arith) (omega (arith, pow-suc 2 n))
 
-  pub mask-has : (n i : ℕ) → i < n → has_bit (mask_of n p) i ≡ p i
+  pub mask_has : (n i : ℕ) → i < n → has_bit (mask_of n p) i ≡ p i
   unfolding mask_of
-  mask-has zero i h = absurd (omega arith)
-  mask-has (suc n) i h =
+  mask_has zero i h = absurd (omega arith)
+  mask_has (suc n) i h =
       has_with_bit (mask_of n p) n i (p n)
       ∙ branch (λ (b : Bool). b ≡ p i) (eqb n i) (p n) (has_bit (mask_of n p) i)
       (λ (e : eqb n i ≡ true). ap p (eqb-true n i e))
-      (λ (e : eqb n i ≡ false). let other : n ≡ i → ⊥ = eqb-false n i e in mask-has n i (omega arith))
+      (λ (e : eqb n i ≡ false). let other : n ≡ i → ⊥ = eqb-false n i e in mask_has n i (omega arith))
 
 same_digit : (x y : ℕ) → x < 2 → y < 2 → eqb x 1 ≡ eqb y 1 → x ≡ y
 same_digit zero zero p q e = refl
@@ -54,4 +54,4 @@ same-bits (suc n) a b p q h =
 
 -- a word of n bits that has a test's bits is its mask
 pub mask_is : (n w : ℕ) (p : ℕ → Bool) → w < 2 ^ n → ((i : ℕ) → i < n → has_bit w i ≡ p i) → mask_of n p ≡ w
-mask_is n w p less h = same-bits n (mask_of n p) w (mask_lt p n) less (λ (i : ℕ) (l : i < n). mask-has p n i l ∙ sym (h i l))
+mask_is n w p less h = same-bits n (mask_of n p) w (mask_lt p n) less (λ (i : ℕ) (l : i < n). mask_has p n i l ∙ sym (h i l))

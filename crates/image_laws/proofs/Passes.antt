@@ -27,43 +27,43 @@ use Rattle.image_lists.specs.Entry.{entry_bytes}
 use Rattle.image_reasons.specs.Every.{every_below}
 use Rattle.image_lists.specs.Lists.{list_bytes}
 use Rattle.image_reasons.specs.Tests.{plain_at, nan_free, same_bytes, same_byte}
-use Rattle.image_reasons.proofs.Every.{every-is, every_holds}
+use Rattle.image_reasons.proofs.Every.{every_is, every_holds}
 use Rattle.image_laws.proofs.IsAt.{IsAt, byte_is, front, behind}
 use Rattle.image_laws.proofs.Words.{word_bytes, matrix_words, material_words, light_floats, fog_words, matrix-words, material-words, light-words, entry_words, states_words, matrix_plain, material_plain, light_plain, fog_plain, plain_pass}
 
 -- ---- floats
 
 module _ (bytes : List ℕ) (at : ℕ) where
-  pub matrix-pass : (m : D3DMATRIX) → matrixFits m → IsAt (matrix_bytes m) bytes at → nan_free 16 bytes at ≡ true
-  matrix-pass m fits h = plain_pass (matrix_words m) bytes at (rw (matrix-words m) at h) (matrix_plain fits)
+  pub matrix_pass : (m : D3DMATRIX) → matrixFits m → IsAt (matrix_bytes m) bytes at → nan_free 16 bytes at ≡ true
+  matrix_pass m fits h = plain_pass (matrix_words m) bytes at (rw (matrix-words m) at h) (matrix_plain fits)
 
-  pub material-pass : (m : D3DMATERIAL9) → materialFits m → IsAt (material_bytes m) bytes at → nan_free 17 bytes at ≡ true
-  material-pass m fits h = plain_pass (material_words m) bytes at (rw (material-words m) at h) (material_plain fits)
+  pub material_pass : (m : D3DMATERIAL9) → materialFits m → IsAt (material_bytes m) bytes at → nan_free 17 bytes at ≡ true
+  material_pass m fits h = plain_pass (material_words m) bytes at (rw (material-words m) at h) (material_plain fits)
 
   -- behind the type
-  pub light-pass : (l : D3DLIGHT9) → lightFits l → IsAt (light_bytes l) bytes at → nan_free 25 bytes (at + 4) ≡ true
+  pub light_pass : (l : D3DLIGHT9) → lightFits l → IsAt (light_bytes l) bytes at → nan_free 25 bytes (at + 4) ≡ true
   unfolding list_bytes little_bytes
-  light-pass l fits h =
+  light_pass l fits h =
       plain_pass (light_floats l) bytes (at + 4) (behind (word_bytes (l.type_ ∷ [])) (word_bytes (light_floats l)) bytes at (rw (light-words l) at h)) (light_plain fits)
 
   -- behind index, enable and type
-  pub entry-pass : (e : OverflowLight) → lightFits e.light → IsAt (entry_bytes e) bytes at → nan_free 25 bytes (at + 12) ≡ true
+  pub entry_pass : (e : OverflowLight) → lightFits e.light → IsAt (entry_bytes e) bytes at → nan_free 25 bytes (at + 12) ≡ true
   unfolding list_bytes little_bytes
-  entry-pass e fits h =
+  entry_pass e fits h =
       plain_pass (light_floats e.light) bytes (at + 12)
       (behind (word_bytes (e.index ∷ e.enabled ∷ e.light.type_ ∷ [])) (word_bytes (light_floats e.light)) bytes at (rw (entry_words e) at h)) (light_plain fits)
 
   -- before the ambient colour
-  pub fog-pass : (r : RenderStates) → statesFit r → IsAt (states_bytes r) bytes at → nan_free 3 bytes at ≡ true
+  pub fog_pass : (r : RenderStates) → statesFit r → IsAt (states_bytes r) bytes at → nan_free 3 bytes at ≡ true
   unfolding list_bytes little_bytes
-  fog-pass r fits h =
+  fog_pass r fits h =
       plain_pass (fog_words r) bytes at (front (word_bytes (fog_words r)) (word_bytes (r.ambient ∷ [])) bytes at (rw (states_words r) at h)) (fog_plain fits)
 
   -- one stretch of floats behind another
-  pub nan-join : (a b : ℕ) → nan_free a bytes at ≡ true → nan_free b bytes (at + 4 * a) ≡ true → nan_free (a + b) bytes at ≡ true
+  pub nan_join : (a b : ℕ) → nan_free a bytes at ≡ true → nan_free b bytes (at + 4 * a) ≡ true → nan_free (a + b) bytes at ≡ true
   unfolding nan_free
-  nan-join a b h k =
-      every-is (plain_at bytes at) (a + b)
+  nan_join a b h k =
+      every_is (plain_at bytes at) (a + b)
       (λ (i : ℕ) (l : i < a + b). by_cases i l (ltb i a) refl)
     where
       by_cases : (i : ℕ) → i < a + b → (t : Bool) → ltb i a ≡ t → plain_at bytes at i ≡ true
@@ -78,12 +78,12 @@ unfolding nan_free every_below
 nan_items bytes at m zero h = rw mul-zero
 nan_items bytes at m (suc n) h =
     let e : 4 * m * n ≡ 4 * (m * n) = mul_assoc 4 m n in
-    rw mul-suc (nan-join bytes at (m * n) m (nan_items bytes at m n (λ (i : ℕ) (l : i < n). h i (omega arith))) (rw e at (h n (omega arith))))
+    rw mul-suc (nan_join bytes at (m * n) m (nan_items bytes at m n (λ (i : ℕ) (l : i < n). h i (omega arith))) (rw e at (h n (omega arith))))
 
 -- ---- bytes that are at a place
 
 pub is_same : (ws bytes : List ℕ) (at : ℕ) → IsAt ws bytes at → same_bytes ws bytes at ≡ true
 unfolding same_bytes
 is_same ws bytes at h =
-    every-is (same_byte ws bytes at) (length ws)
+    every_is (same_byte ws bytes at) (length ws)
     (λ (i : ℕ) (l : i < length ws). eq-eqb (get_or bytes (at + i) 0) (get_or ws i 0) (byte_is ws bytes at i h l))

@@ -23,25 +23,25 @@ use Rattle.image.specs.Read.{state_of, lights_of, defined_of}
 use Rattle.image.proofs.Format.{valid_sized}
 use Rattle.image_laws.proofs.Masks.{mask_is}
 use Rattle.image_laws.proofs.IsAt.{low_byte}
-use Rattle.image_laws.proofs.Fields.{written, number-reads, mask-reads, matrix-reads, material-reads, states-read, matrices-read, lights-read, entries-read}
+use Rattle.image_laws.proofs.Fields.{written, number_reads, mask_reads, matrix_reads, material_reads, states_read, matrices_read, lights_read, entries_read}
 
 module _ (s : FfState) (v : Valid s) where
-  set-mask-is : set_mask s.light_defined_mask s.lights ≡ s.light_set_mask
+  set_mask_is : set_mask s.light_defined_mask s.lights ≡ s.light_set_mask
   unfolding set_mask
-  set-mask-is = mask_is 8 s.light_set_mask (slot_set s.light_defined_mask s.lights) v.slots.set_width v.slots.set-mask
+  set_mask_is = mask_is 8 s.light_set_mask (slot_set s.light_defined_mask s.lights) v.slots.set_width v.slots.set-mask
 
-  directional-mask-is : type_mask 3 s.light_defined_mask s.lights ≡ s.light_directional_mask
+  directional_mask_is : type_mask 3 s.light_defined_mask s.lights ≡ s.light_directional_mask
   unfolding type_mask
-  directional-mask-is =
+  directional_mask_is =
       mask_is 8 s.light_directional_mask (slot_is 3 s.light_defined_mask s.lights) v.slots.directional_width v.slots.directional_mask
 
-  spot-mask-is : type_mask 2 s.light_defined_mask s.lights ≡ s.light_spot_mask
+  spot_mask_is : type_mask 2 s.light_defined_mask s.lights ≡ s.light_spot_mask
   unfolding type_mask
-  spot-mask-is = mask_is 8 s.light_spot_mask (slot_is 2 s.light_defined_mask s.lights) v.slots.spot_width v.slots.spot_mask
+  spot_mask_is = mask_is 8 s.light_spot_mask (slot_is 2 s.light_defined_mask s.lights) v.slots.spot_width v.slots.spot_mask
 
   -- behind the entries in use stand zero entries
-  pub unused-is : (k : ℕ) → s.overflow_count ≤ k → k < 56 → get_or s.overflow_lights k zero_entry ≡ zero_entry
-  unused-is k from less =
+  pub unused_is : (k : ℕ) → s.overflow_count ≤ k → k < 56 → get_or s.overflow_lights k zero_entry ≡ zero_entry
+  unused_is k from less =
       let n = s.overflow_count in
       let e : n + (k - n) ≡ k = omega arith in
       ap (λ (i : ℕ). get_or s.overflow_lights i zero_entry) (sym e)
@@ -50,45 +50,45 @@ module _ (s : FfState) (v : Valid s) where
       ∙ get_or-replicate (56 - n) (k - n) zero_entry zero_entry (omega arith)
 
   -- what holds of the entries in use and of the zero entry holds of all 56
-  every-entry : (P : OverflowLight → Type 0) → P zero_entry → ((k : ℕ) → k < s.overflow_count → P (get_or s.overflow_lights k zero_entry)) → (k : ℕ) → k < 56
+  every_entry : (P : OverflowLight → Type 0) → P zero_entry → ((k : ℕ) → k < s.overflow_count → P (get_or s.overflow_lights k zero_entry)) → (k : ℕ) → k < 56
       → P (get_or s.overflow_lights k zero_entry)
-  every-entry P unused in_use k less = by_cases (ltb k s.overflow_count) refl
+  every_entry P unused in_use k less = by_cases (ltb k s.overflow_count) refl
     where
       by_cases : (t : Bool) → ltb k s.overflow_count ≡ t → P (get_or s.overflow_lights k zero_entry)
       by_cases true e = in_use k (ltb-true k s.overflow_count e)
-      by_cases false e = subst P (sym (unused-is k (ltb-false k s.overflow_count e) less)) unused
+      by_cases false e = subst P (sym (unused_is k (ltb-false k s.overflow_count e) less)) unused
 
-  entry-fits : (k : ℕ) → k < 56 → entryFits (get_or s.overflow_lights k zero_entry)
+  entry_fits : (k : ℕ) → k < 56 → entryFits (get_or s.overflow_lights k zero_entry)
   unfolding zero_entry
-  entry-fits k less =
+  entry_fits k less =
       record {
-        index = every-entry (λ (e : OverflowLight). e.index < 2 ^ 32) (lit< tt) v.overflow.indices k less;
-        enabled = every-entry (λ (e : OverflowLight). e.enabled < 2 ^ 32) (lit< tt) (λ (j : ℕ) (l : j < s.overflow_count). omega (arith, v.overflow.flags j l)) k less;
+        index = every_entry (λ (e : OverflowLight). e.index < 2 ^ 32) (lit< tt) v.overflow.indices k less;
+        enabled = every_entry (λ (e : OverflowLight). e.enabled < 2 ^ 32) (lit< tt) (λ (j : ℕ) (l : j < s.overflow_count). omega (arith, v.overflow.flags j l)) k less;
         light = v.floats.overflow k less;
       }
 
-  pub read-written : state_of (image_bytes s) ≡ s
+  pub read_written : state_of (image_bytes s) ≡ s
   unfolding state_of
-  read-written =
+  read_written =
       let w = written s (valid_sized v) in
-      let lights : lights_of (image_bytes s) ≡ s.lights = lights-read 8 s.lights v.lights_length v.floats.lights w.lights in
-      let mask : number_at 4 (image_bytes s) 24_220 ≡ s.tt_active_mask = mask-reads v.texture-mask w.texture-mask in
-      let defined : defined_of (image_bytes s) ≡ s.light_defined_mask = number-reads 1 s.light_defined_mask v.slots.defined_width w.defined in
+      let lights : lights_of (image_bytes s) ≡ s.lights = lights_read 8 s.lights v.lights_length v.floats.lights w.lights in
+      let mask : number_at 4 (image_bytes s) 24_220 ≡ s.tt_active_mask = mask_reads v.texture-mask w.texture-mask in
+      let defined : defined_of (image_bytes s) ≡ s.light_defined_mask = number_reads 1 s.light_defined_mask v.slots.defined_width w.defined in
       fields_are s
-      (matrix-reads v.floats.view w.view)
-      (matrix-reads v.floats.projection w.projection)
-      (matrices-read 256 s.world_palette v.palette_length v.floats.palette w.palette)
-      (number-reads 2 s.world_palette_high_water (omega (arith, v.high_water)) w.index)
-      (matrices-read 8 s.texture_transforms v.texture_length v.floats.texture w.texture)
-      (material-reads v.floats.material w.material)
+      (matrix_reads v.floats.view w.view)
+      (matrix_reads v.floats.projection w.projection)
+      (matrices_read 256 s.world_palette v.palette_length v.floats.palette w.palette)
+      (number_reads 2 s.world_palette_high_water (omega (arith, v.high_water)) w.index)
+      (matrices_read 8 s.texture_transforms v.texture_length v.floats.texture w.texture)
+      (material_reads v.floats.material w.material)
       lights
-      (number-reads 1 s.light_enabled v.slots.enabled_width w.enabled)
-      (ap₂ set_mask defined lights ∙ set-mask-is)
+      (number_reads 1 s.light_enabled v.slots.enabled_width w.enabled)
+      (ap₂ set_mask defined lights ∙ set_mask_is)
       defined
-      (ap₂ (type_mask 3) defined lights ∙ directional-mask-is)
-      (ap₂ (type_mask 2) defined lights ∙ spot-mask-is)
-      (entries-read 56 s.overflow_lights v.overflow_length entry-fits w.entries)
-      (number-reads 2 s.overflow_count (omega (arith, v.overflow.count)) w.count)
-      (number-reads 1 (dirty_word s) (omega (arith, v.dirty)) w.dirty)
-      (states-read v.states w.states)
+      (ap₂ (type_mask 3) defined lights ∙ directional_mask_is)
+      (ap₂ (type_mask 2) defined lights ∙ spot_mask_is)
+      (entries_read 56 s.overflow_lights v.overflow_length entry_fits w.entries)
+      (number_reads 2 s.overflow_count (omega (arith, v.overflow.count)) w.count)
+      (number_reads 1 (dirty_word s) (omega (arith, v.dirty)) w.dirty)
+      (states_read v.states w.states)
       (low_byte 3 (image_bytes s) 24_220 (omega (arith, v.texture-mask)) ∙ mask)

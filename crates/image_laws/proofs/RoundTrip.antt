@@ -17,7 +17,7 @@ use Rattle.image.specs.Write.{WriteOutcome, write_outcome, write_image}
 use Rattle.image.specs.declared.read.ImageRead.{ImageRead}
 use Rattle.image.specs.declared.read.ReadAnswer.TheVariants.{Accepted}
 use Rattle.image.specs.declared.write.WriteAnswer.TheVariants.{Written}
-use Rattle.image_laws.proofs.ReadWritten.{read-written}
+use Rattle.image_laws.proofs.ReadWritten.{read_written}
 use Rattle.image_laws.proofs.ValidAccepted.{valid_accepted}
 use Rattle.image_laws.proofs.WrittenRead.{written_read}
 
@@ -33,7 +33,7 @@ pub written_then_read : (s t : FfState) (dst : List ℕ) → Valid s → length 
 written_then_read s t dst v h =
     ap (λ (o : WriteOutcome). read_image t o.bytes) (write_writes s dst h)
     ∙ read_reads t (image_bytes s) (valid_accepted s v)
-    ∙ ap {B = ImageRead} (λ (u : FfState). record { answer = Accepted; state = u }) (read-written s v)
+    ∙ ap {B = ImageRead} (λ (u : FfState). record { answer = Accepted; state = u }) (read_written s v)
 
 pub read_then_written : (bytes : List ℕ) (t : FfState) (dst : List ℕ) → Bytes bytes → refused bytes ≡ false → length dst ≡ image_length
     → write_image (read_image t bytes).state dst ≡ write_outcome Written bytes

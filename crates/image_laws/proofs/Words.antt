@@ -39,8 +39,8 @@ use Rattle.light_table.specs.declared.entry.OverflowLight.{OverflowLight}
 use Rattle.image_lists.specs.Entry.{entry_bytes}
 use Rattle.image_lists.specs.Lists.{list_bytes}
 use Rattle.image_reasons.specs.Tests.{plain_word, plain_at, nan_free}
-use Rattle.image_reasons.proofs.Every.{every-is}
-use Rattle.image_laws.proofs.IsAt.{IsAt, item-is, is_number}
+use Rattle.image_reasons.proofs.Every.{every_is}
+use Rattle.image_laws.proofs.IsAt.{IsAt, item_is, is_number}
 
 abbrev pub bits : Float → ℕ
 bits x = to_bits binary32 x
@@ -143,27 +143,27 @@ plain-at (more h hs) zero l = h
 plain-at (more h hs) (suc i) l = plain-at hs i (omega arith)
 
 module _ {ns : List ℕ} where
-  and-row : {r : Row} → rowFits r → Plains ns → Plains (row_words r ++ ns)
-  and-row h k = more (bits_plain _ h.x) (more (bits_plain _ h.y) (more (bits_plain _ h.z) (more (bits_plain _ h.w) k)))
+  and_row : {r : Row} → rowFits r → Plains ns → Plains (row_words r ++ ns)
+  and_row h k = more (bits_plain _ h.x) (more (bits_plain _ h.y) (more (bits_plain _ h.z) (more (bits_plain _ h.w) k)))
 
-  and-color : {c : D3DCOLORVALUE} → colorFits c → Plains ns → Plains (color_words c ++ ns)
-  and-color h k = and-row (color_row_fits h) k
+  and_color : {c : D3DCOLORVALUE} → colorFits c → Plains ns → Plains (color_words c ++ ns)
+  and_color h k = and_row (color_row_fits h) k
 
-  and-vector : {v : D3DVECTOR} → vectorFits v → Plains ns → Plains (vector_words v ++ ns)
-  and-vector h k = more (bits_plain _ h.x) (more (bits_plain _ h.y) (more (bits_plain _ h.z) k))
+  and_vector : {v : D3DVECTOR} → vectorFits v → Plains ns → Plains (vector_words v ++ ns)
+  and_vector h k = more (bits_plain _ h.x) (more (bits_plain _ h.y) (more (bits_plain _ h.z) k))
 
 pub matrix_plain : {m : D3DMATRIX} → matrixFits m → Plains (matrix_words m)
-matrix_plain h = and-row h.r0 (and-row h.r1 (and-row h.r2 (and-row h.r3 none)))
+matrix_plain h = and_row h.r0 (and_row h.r1 (and_row h.r2 (and_row h.r3 none)))
 
 pub material_plain : {m : D3DMATERIAL9} → materialFits m → Plains (material_words m)
 material_plain h =
-    and-color h.diffuse (and-color h.ambient (and-color h.specular (and-color h.emissive (more (bits_plain _ h.power) none))))
+    and_color h.diffuse (and_color h.ambient (and_color h.specular (and_color h.emissive (more (bits_plain _ h.power) none))))
 
 pub light_plain : {l : D3DLIGHT9} → lightFits l → Plains (light_floats l)
 light_plain h =
     let last = more (bits_plain _ h.attenuation2) (more (bits_plain _ h.theta) (more (bits_plain _ h.phi) none)) in
     let seven = more (bits_plain _ h.range) (more (bits_plain _ h.falloff) (more (bits_plain _ h.attenuation0) (more (bits_plain _ h.attenuation1) last))) in
-    and-color h.diffuse (and-color h.specular (and-color h.ambient (and-vector h.position (and-vector h.direction seven))))
+    and_color h.diffuse (and_color h.specular (and_color h.ambient (and_vector h.position (and_vector h.direction seven))))
 
 pub fog_plain : {r : RenderStates} → statesFit r → Plains (fog_words r)
 fog_plain h = more (bits_plain _ h.fog_start) (more (bits_plain _ h.fog_end) (more (bits_plain _ h.fog_density) none))
@@ -172,7 +172,7 @@ fog_plain h = more (bits_plain _ h.fog_start) (more (bits_plain _ h.fog_end) (mo
 pub plain_pass : (ns bytes : List ℕ) (at : ℕ) → IsAt (word_bytes ns) bytes at → Plains ns → nan_free (length ns) bytes at ≡ true
 unfolding nan_free
 plain_pass ns bytes at h p =
-    every-is (plain_at bytes at) (length ns)
+    every_is (plain_at bytes at) (length ns)
     (λ (k : ℕ) (l : k < length ns).
     let n = plain-at p k l in
-    rw (is_number 4 bytes (at + 4 * k) (get_or ns k 0) n.small (item-is (little_bytes 4) 4 (length-little_bytes 4) bytes 0 ns at k h l)) n.plain)
+    rw (is_number 4 bytes (at + 4 * k) (get_or ns k 0) n.small (item_is (little_bytes 4) 4 (length-little_bytes 4) bytes 0 ns at k h l)) n.plain)

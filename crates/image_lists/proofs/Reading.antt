@@ -12,57 +12,57 @@ use Rattle.codec.proofs.Inside.{Skips, Starts, inside}
 use Rattle.image_lists.specs.Lists.{list_bytes, list_at}
 
 module _ {A : Type 0} (read : List ℕ → ℕ → A) (size : ℕ) where
-  pub length-listAt : (n : ℕ) (bytes : List ℕ) (at : ℕ) → length (list_at read size n bytes at) ≡ n
+  pub length_list_at : (n : ℕ) (bytes : List ℕ) (at : ℕ) → length (list_at read size n bytes at) ≡ n
   unfolding list_at
-  length-listAt zero bytes at = refl
-  length-listAt (suc n) bytes at = ap suc (length-listAt n bytes (at + size))
+  length_list_at zero bytes at = refl
+  length_list_at (suc n) bytes at = ap suc (length_list_at n bytes (at + size))
 
   further : (at i : ℕ) → at + size + size * i ≡ at + size * suc i
   further at i = rw mul-suc (omega arith)
 
   -- entry i is the item at its place
-  pub getD-listAt : (n : ℕ) (bytes : List ℕ) (at i : ℕ) (d : A) → i < n → get_or (list_at read size n bytes at) i d ≡ read bytes (at + size * i)
+  pub get_d_list_at : (n : ℕ) (bytes : List ℕ) (at i : ℕ) (d : A) → i < n → get_or (list_at read size n bytes at) i d ≡ read bytes (at + size * i)
   unfolding list_at
-  getD-listAt zero bytes at i d h = absurd (omega arith)
-  getD-listAt (suc n) bytes at zero d h = let e : at + size * 0 ≡ at = omega arith in rw e
-  getD-listAt (suc n) bytes at (suc i) d h =
-      getD-listAt n bytes (at + size) i d (omega arith) ∙ ap (read bytes) (further at i)
+  get_d_list_at zero bytes at i d h = absurd (omega arith)
+  get_d_list_at (suc n) bytes at zero d h = let e : at + size * 0 ≡ at = omega arith in rw e
+  get_d_list_at (suc n) bytes at (suc i) d h =
+      get_d_list_at n bytes (at + size) i d (omega arith) ∙ ap (read bytes) (further at i)
 
   -- one item more stands behind
-  listAt-more : (n : ℕ) (bytes : List ℕ) (at : ℕ) → list_at read size (suc n) bytes at ≡ list_at read size n bytes at ++ (read bytes (at + size * n) ∷ [])
+  list_at_more : (n : ℕ) (bytes : List ℕ) (at : ℕ) → list_at read size (suc n) bytes at ≡ list_at read size n bytes at ++ (read bytes (at + size * n) ∷ [])
   unfolding list_at
-  listAt-more zero bytes at = let e : at + size * 0 ≡ at = omega arith in rw e
-  listAt-more (suc n) bytes at =
-      ap (λ (l : List A). read bytes at ∷ l) (listAt-more n bytes (at + size) ∙ rw (further at n))
+  list_at_more zero bytes at = let e : at + size * 0 ≡ at = omega arith in rw e
+  list_at_more (suc n) bytes at =
+      ap (λ (l : List A). read bytes at ∷ l) (list_at_more n bytes (at + size) ∙ rw (further at n))
 
   -- the first k of n items
-  pub take-listAt : (k n : ℕ) (bytes : List ℕ) (at : ℕ) → k ≤ n → take k (list_at read size n bytes at) ≡ list_at read size k bytes at
+  pub take_list_at : (k n : ℕ) (bytes : List ℕ) (at : ℕ) → k ≤ n → take k (list_at read size n bytes at) ≡ list_at read size k bytes at
   unfolding list_at
-  take-listAt zero n bytes at h = refl
-  take-listAt (suc k) zero bytes at h = absurd (omega arith)
-  take-listAt (suc k) (suc n) bytes at h =
-      ap (λ (l : List A). read bytes at ∷ l) (take-listAt k n bytes (at + size) (omega arith))
+  take_list_at zero n bytes at h = refl
+  take_list_at (suc k) zero bytes at h = absurd (omega arith)
+  take_list_at (suc k) (suc n) bytes at h =
+      ap (λ (l : List A). read bytes at ∷ l) (take_list_at k n bytes (at + size) (omega arith))
 
-  pub listAt-skips : Skips read → (n : ℕ) → Skips (list_at read size n)
+  pub list_at_skips : Skips read → (n : ℕ) → Skips (list_at read size n)
   unfolding list_at
-  listAt-skips skips zero p q at = refl
-  listAt-skips skips (suc n) p q at = rw (skips p q at, add_assoc, listAt-skips skips n p q (at + size))
+  list_at_skips skips zero p q at = refl
+  list_at_skips skips (suc n) p q at = rw (skips p q at, add_assoc, list_at_skips skips n p q (at + size))
 
   -- the items come back where each does
-  pub listAt-starts : Skips read → (write : A → List ℕ) (wide : (x : A) → length (write x) ≡ size) (d : A) (xs : List A)
+  pub list_at_starts : Skips read → (write : A → List ℕ) (wide : (x : A) → length (write x) ≡ size) (d : A) (xs : List A)
       → ((i : ℕ) → i < length xs → Starts read (write (get_or xs i d)) (get_or xs i d)) → Starts (list_at read size (length xs)) (list_bytes write xs) xs
   unfolding list_at list_bytes
-  listAt-starts skips write wide d [] back rest = refl
-  listAt-starts skips write wide d (x ∷ xs) back rest =
+  list_at_starts skips write wide d [] back rest = refl
+  list_at_starts skips write wide d (x ∷ xs) back rest =
       let behind : list_at read size (length xs) (write x ++ (list_bytes write xs ++ rest)) size ≡ xs =
-      inside (list_at read size (length xs)) (listAt-skips skips (length xs)) (list_bytes write xs) xs
-      (listAt-starts skips write wide d xs (λ (i : ℕ) (h : i < length xs). back (suc i) (omega arith))) (write x) rest size (wide x) in
+      inside (list_at read size (length xs)) (list_at_skips skips (length xs)) (list_bytes write xs) xs
+      (list_at_starts skips write wide d xs (λ (i : ℕ) (h : i < length xs). back (suc i) (omega arith))) (write x) rest size (wide x) in
       rw (append_assoc, zero-add, back 0 (omega arith) (list_bytes write xs ++ rest), behind)
 
   -- and so they do inside a longer list
-  pub listAt-inside : Skips read → (write : A → List ℕ) (xs : List A) → Starts (list_at read size (length xs)) (list_bytes write xs) xs
+  pub list_at_inside : Skips read → (write : A → List ℕ) (xs : List A) → Starts (list_at read size (length xs)) (list_bytes write xs) xs
       → (pre post : List ℕ) (at : ℕ) → length pre ≡ at → list_at read size (length xs) (pre ++ (list_bytes write xs ++ post)) at ≡ xs
-  listAt-inside skips write xs starts = inside (list_at read size (length xs)) (listAt-skips skips (length xs)) (list_bytes write xs) xs starts
+  list_at_inside skips write xs starts = inside (list_at read size (length xs)) (list_at_skips skips (length xs)) (list_bytes write xs) xs starts
 
 -- what holds at the head of a loop that reads n items, when i of them are read
 pub record Filled {A : Type 0} (read : List ℕ → ℕ → A) (size n : ℕ) (bytes : List ℕ) (at : ℕ) (out : List A) (i : ℕ) : Type 0 where
@@ -82,7 +82,7 @@ module _ {A : Type 0} (read : List ℕ → ℕ → A) (size n : ℕ) (bytes : Li
       record {
         most = omega arith;
         count = length-set out i v ∙ f.count;
-        is = rw (add-one, take-suc-set out i v in-range, f.is, e) (sym (listAt-more read size i bytes at));
+        is = rw (add-one, take-suc-set out i v in-range, f.is, e) (sym (list_at_more read size i bytes at));
       }
 
   pub ends : (out : List A) (i : ℕ) → n ≤ i → Filled read size n bytes at out i → out ≡ list_at read size n bytes at

@@ -22,15 +22,15 @@ unfolding list_bytes
 list_bytes-one f x = append-nil (f x)
 
 module _ {A : Type 0} (f : A → List ℕ) (w : ℕ) (wide : (x : A) → length (f x) ≡ w) where
-  pub length-listBytes : (xs : List A) → length (list_bytes f xs) ≡ w * length xs
+  pub length_list_bytes : (xs : List A) → length (list_bytes f xs) ≡ w * length xs
   unfolding list_bytes
-  length-listBytes [] = omega arith
-  length-listBytes (x ∷ xs) = rw (length-append, wide x, length-listBytes xs, mul-suc) (omega arith)
+  length_list_bytes [] = omega arith
+  length_list_bytes (x ∷ xs) = rw (length-append, wide x, length_list_bytes xs, mul-suc) (omega arith)
 
   pub turn : (at i : ℕ) (xs : List A) (d : A) (m : List ℕ) → i < length xs → at + w * length xs ≤ length m
       → put (at + w * i) (f (get_or xs i d)) (put at (list_bytes f (take i xs)) m) ≡ put at (list_bytes f (take (i + 1) xs)) m
   turn at i xs d m h room =
-      let front : length (list_bytes f (take i xs)) ≡ w * i = length-listBytes (take i xs) ∙ ap (λ (n : ℕ). w * n) (length-take-le i xs (omega arith)) in
+      let front : length (list_bytes f (take i xs)) ≡ w * i = length_list_bytes (take i xs) ∙ ap (λ (n : ℕ). w * n) (length-take-le i xs (omega arith)) in
       let one : length (f (get_or xs i d)) ≡ w = wide (get_or xs i d) in
       let most : w * i + w ≤ w * length xs = rw mul-suc at (mul-le-mul_left w h) in
       let enough : at + (length (list_bytes f (take i xs)) + length (f (get_or xs i d))) ≤ length m = omega arith in

@@ -20,9 +20,9 @@ module _ (bytes : List ℕ) (from m at : ℕ) where
   unfolding ascending list_at entry_at
   one_more h = rw (le-leb from (number_at 4 bytes at) h)
 
-  too-low : number_at 4 bytes at < from → ascending from (list_at entry_at 112 (suc m) bytes at) ≡ false
+  too_low : number_at 4 bytes at < from → ascending from (list_at entry_at 112 (suc m) bytes at) ≡ false
   unfolding ascending list_at entry_at
-  too-low h = rw (lt-leb from (number_at 4 bytes at) h)
+  too_low h = rw (lt-leb from (number_at 4 bytes at) h)
 
 -- what holds at the head of the loop, when i entries are passed
 pub record Ascends (n : ℕ) (bytes : List ℕ) (at from i : ℕ) : Type 0 where
@@ -45,7 +45,7 @@ module _ (n : ℕ) (bytes : List ℕ) (at : ℕ) where
         record { most = omega arith; is = sym here ∙ f.is }
 
     pub stops : index < from → false ≡ ascends n bytes at
-    stops h = sym (rw one_left (too-low bytes from (n - (i + 1)) (at + 112 * i) (rw (← read) h))) ∙ f.is
+    stops h = sym (rw one_left (too_low bytes from (n - (i + 1)) (at + 112 * i) (rw (← read) h))) ∙ f.is
 
   pub ends : (from i : ℕ) → n ≤ i → Ascends n bytes at from i → true ≡ ascends n bytes at
   unfolding ascending list_at

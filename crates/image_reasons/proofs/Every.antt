@@ -17,10 +17,10 @@ module _ (p : ℕ → Bool) where
   unfolding every_below
   every_more n h e = rw (h, e)
 
-  pub every-is : (n : ℕ) → ((k : ℕ) → k < n → p k ≡ true) → every_below n p ≡ true
+  pub every_is : (n : ℕ) → ((k : ℕ) → k < n → p k ≡ true) → every_below n p ≡ true
   unfolding every_below
-  every-is zero h = refl
-  every-is (suc n) h = rw (every-is n (λ (k : ℕ) (l : k < n). h k (omega arith)), h n (omega arith))
+  every_is zero h = refl
+  every_is (suc n) h = rw (every_is n (λ (k : ℕ) (l : k < n). h k (omega arith)), h n (omega arith))
 
   pub every_holds : (n : ℕ) → every_below n p ≡ true → (k : ℕ) → k < n → p k ≡ true
   unfolding every_below
@@ -30,8 +30,8 @@ module _ (p : ℕ → Bool) where
       below_more (λ (j : ℕ). p j ≡ true) n (every_holds n both.0) both.1 k (omega arith)
 
   -- one that fails is enough
-  pub every-fails : (n i : ℕ) → i < n → p i ≡ false → every_below n p ≡ false
-  every-fails n i h e =
+  pub every_fails : (n i : ℕ) → i < n → p i ≡ false → every_below n p ≡ false
+  every_fails n i h e =
       not_so (every_below n p) (λ (all : every_below n p ≡ true). true≢false (sym (every_holds n all i h) ∙ e))
 
 -- what holds at the head of a loop that tests the numbers below n, when those below i passed
@@ -53,7 +53,7 @@ module _ (p : ℕ → Bool) (n : ℕ) where
       sym (ap (λ (k : ℕ). every_below k p) (sym e) ∙ f.all)
 
   pub stops : (i : ℕ) → i < n → p i ≡ false → false ≡ every_below n p
-  stops i h e = sym (every-fails p n i h e)
+  stops i h e = sym (every_fails p n i h e)
 
 and_true : (b : Bool) → (b && true) ≡ b
 and_true true = refl
@@ -74,15 +74,15 @@ module _ (p : ℕ → Bool) (n : ℕ) where
   looks = record { most = omega arith; all = refl }
 
   module _ (i : ℕ) (h : i < n) (so b : Bool) (f : Looked p n i so) where
-    pub looked-on : p i ≡ true → b ≡ so → Looked p n (i + 1) b
+    pub looked_on : p i ≡ true → b ≡ so → Looked p n (i + 1) b
     unfolding every_below
-    looked-on e q = record { most = omega arith; all = rw (add-one, e) (q ∙ f.all ∙ sym (and_true (every_below i p))) }
+    looked_on e q = record { most = omega arith; all = rw (add-one, e) (q ∙ f.all ∙ sym (and_true (every_below i p))) }
 
-    pub looked-off : p i ≡ false → b ≡ false → Looked p n (i + 1) b
+    pub looked_off : p i ≡ false → b ≡ false → Looked p n (i + 1) b
     unfolding every_below
-    looked-off e q = record { most = omega arith; all = rw (add-one, e) (q ∙ sym (and_false (every_below i p))) }
+    looked_off e q = record { most = omega arith; all = rw (add-one, e) (q ∙ sym (and_false (every_below i p))) }
 
-  pub looked-all : (i : ℕ) (so : Bool) → n ≤ i → Looked p n i so → so ≡ every_below n p
-  looked-all i so h f =
+  pub looked_all : (i : ℕ) (so : Bool) → n ≤ i → Looked p n i so → so ≡ every_below n p
+  looked_all i so h f =
       let e : i ≡ n = omega (arith, f.most) in
       f.all ∙ ap (λ (k : ℕ). every_below k p) e

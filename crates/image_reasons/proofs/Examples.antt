@@ -14,16 +14,16 @@ use Rattle.image_reasons.proofs.Accepted.{accepted}
 use Rattle.image_reasons.proofs.Every.{every_holds}
 
 module _ (bytes : List ℕ) where
-  pub mask-256-refused : number_at 4 bytes 24_220 ≡ 256 → refused bytes ≡ true
-  mask-256-refused e = go (test (refused bytes))
+  pub mask_256_refused : number_at 4 bytes 24_220 ≡ 256 → refused bytes ≡ true
+  mask_256_refused e = go (test (refused bytes))
     where
       go : (refused bytes ≡ true) ⊎ (refused bytes ≡ false) → refused bytes ≡ true
       go (inl on) = on
       go (inr off) = let most = (accepted bytes off).mask in absurd (omega (arith, most, e))
 
-  pub fog-end-nan-refused : number_at 4 bytes 24_208 ≡ 0x7FC0_0001 → refused bytes ≡ true
+  pub fog_end_nan_refused : number_at 4 bytes 24_208 ≡ 0x7FC0_0001 → refused bytes ≡ true
   unfolding nan_free plain_word
-  fog-end-nan-refused e = go (test (refused bytes))
+  fog_end_nan_refused e = go (test (refused bytes))
     where
       go : (refused bytes ≡ true) ⊎ (refused bytes ≡ false) → refused bytes ≡ true
       go (inl on) = on

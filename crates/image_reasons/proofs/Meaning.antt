@@ -28,9 +28,9 @@ use Rattle.image_reasons.proofs.Every.{every_holds}
 
 module _ (ws bytes : List ℕ) (at : ℕ) (room : at + length ws ≤ length bytes) (h : same_bytes ws bytes at ≡ true) where
   -- ws stand there
-  pub same-is : take (length ws) (drop at bytes) ≡ ws
+  pub same_is : take (length ws) (drop at bytes) ≡ ws
   unfolding same_bytes
-  same-is =
+  same_is =
       let rest : length ws ≤ length (drop at bytes) = rw length-drop (omega arith) in
       let long : length (take (length ws) (drop at bytes)) ≡ length ws = length-take-le (length ws) (drop at bytes) rest in
       ext_get_or 0 (take (length ws) (drop at bytes)) ws long
@@ -45,7 +45,7 @@ module _ (ws bytes : List ℕ) (at : ℕ) (room : at + length ws ≤ length byte
   same_reads read x skips starts =
       let parts : bytes ≡ take at bytes ++ (ws ++ drop (length ws) (drop at bytes)) =
       sym (take-append-drop at bytes)
-      ∙ ap (λ (l : List ℕ). take at bytes ++ l) (sym (take-append-drop (length ws) (drop at bytes)) ∙ ap (λ (l : List ℕ). l ++ drop (length ws) (drop at bytes)) same-is) in
+      ∙ ap (λ (l : List ℕ). take at bytes ++ l) (sym (take-append-drop (length ws) (drop at bytes)) ∙ ap (λ (l : List ℕ). l ++ drop (length ws) (drop at bytes)) same_is) in
       ap (λ (l : List ℕ). read l at) parts
       ∙ inside read skips ws x starts (take at bytes) (drop (length ws) (drop at bytes)) at (length-take-le at bytes (omega arith))
 
@@ -83,13 +83,13 @@ floats_back n bytes at h k l small = plain_back (number_at 4 bytes (at + 4 * k))
 -- ---- entries: n of them from a place on
 
 module _ (n : ℕ) (bytes : List ℕ) (at : ℕ) where
-  pub ascends-is : ascends n bytes at ≡ true → ascending 8 (list_at entry_at 112 n bytes at) ≡ true
+  pub ascends_is : ascends n bytes at ≡ true → ascending 8 (list_at entry_at 112 n bytes at) ≡ true
   unfolding ascends
-  ascends-is h = h
+  ascends_is h = h
 
-  pub flags-are : flags n bytes at ≡ true → (k : ℕ) → k < n → (entry_at bytes (at + 112 * k)).enabled ≤ 1
+  pub flags_are : flags n bytes at ≡ true → (k : ℕ) → k < n → (entry_at bytes (at + 112 * k)).enabled ≤ 1
   unfolding flags
-  flags-are h k l = leb-true (entry_at bytes (at + 112 * k)).enabled 1 (every_holds (flag_at bytes at) n h k l)
+  flags_are h k l = leb-true (entry_at bytes (at + 112 * k)).enabled 1 (every_holds (flag_at bytes at) n h k l)
 
 -- ---- slots
 
@@ -114,10 +114,10 @@ slots_are d bytes at room h i l off =
 -- ---- "another NaN": each float of the slots' lights and of all entries
 
 module _ (bytes : List ℕ) (at : ℕ) where
-  pub light-floats-back : lights_nan_free bytes at ≡ true → (i k : ℕ) → i < 8 → k < 25 → WrittenAsRead bytes (at + 104 * i + 4 + 4 * k)
+  pub light_floats_back : lights_nan_free bytes at ≡ true → (i k : ℕ) → i < 8 → k < 25 → WrittenAsRead bytes (at + 104 * i + 4 + 4 * k)
   unfolding lights_nan_free
-  light-floats-back h i k l = floats_back 25 bytes (at + 104 * i + 4) (every_holds (plain_light bytes at) 8 h i l) k
+  light_floats_back h i k l = floats_back 25 bytes (at + 104 * i + 4) (every_holds (plain_light bytes at) 8 h i l) k
 
-  pub entry-floats-back : entries_nan_free bytes at ≡ true → (i k : ℕ) → i < 56 → k < 25 → WrittenAsRead bytes (at + 112 * i + 12 + 4 * k)
+  pub entry-floats_back : entries_nan_free bytes at ≡ true → (i k : ℕ) → i < 56 → k < 25 → WrittenAsRead bytes (at + 112 * i + 12 + 4 * k)
   unfolding entries_nan_free
-  entry-floats-back h i k l = floats_back 25 bytes (at + 112 * i + 12) (every_holds (plain_entry bytes at) 56 h i l) k
+  entry-floats_back h i k l = floats_back 25 bytes (at + 112 * i + 12) (every_holds (plain_entry bytes at) 56 h i l) k

@@ -13,14 +13,14 @@ module _ (b : ℕ) {n m : ℕ} (read : n ≡ m) where
   pub above : b < n → ltb b m ≡ true
   above h = ap (λ (k : ℕ). ltb b k) (sym read) ∙ lt-ltb b n h
 
-  pub not-above : n ≤ b → ltb b m ≡ false
-  not-above h = ap (λ (k : ℕ). ltb b k) (sym read) ∙ le-ltb b n h
+  pub not_above : n ≤ b → ltb b m ≡ false
+  not_above h = ap (λ (k : ℕ). ltb b k) (sym read) ∙ le-ltb b n h
 
   pub differs : (n ≡ b → ⊥) → not (eqb m b) ≡ true
   differs h = ap (λ (k : ℕ). not (eqb k b)) (sym read) ∙ ap not (ne_eqb n b h)
 
-  pub differs-not : n ≡ b → not (eqb m b) ≡ false
-  differs-not h = ap (λ (k : ℕ). not (eqb k b)) (sym read) ∙ ap not (eq-eqb n b h)
+  pub differs_not : n ≡ b → not (eqb m b) ≡ false
+  differs_not h = ap (λ (k : ℕ). not (eqb k b)) (sym read) ∙ ap not (eq-eqb n b h)
 
 pub few_entries : (bytes : List ℕ) → numbers_refused bytes ≡ false → count_of bytes ≤ 56
 unfolding numbers_refused

@@ -30,8 +30,8 @@ module _ {A : Type 0} (l : List A) (i : ℕ) (a d : A) (h : i < length l) where
       (λ (e : eqb i j ≡ false). get_or-set_other l i j a d (λ q. eqb-false i j e (sym q)))
 
   -- what holds of the new element and of an old one holds of the one that stands there
-  pub set-has : (P : A → Type 0) → P a → (j : ℕ) → P (get_or l j d) → P (get_or (set l i a) j d)
-  set-has P p j q = subst P (sym (get_d_set j)) (branch P (eqb i j) a (get_or l j d) (λ e. p) (λ e. q))
+  pub set_has : (P : A → Type 0) → P a → (j : ℕ) → P (get_or l j d) → P (get_or (set l i a) j d)
+  set_has P p j q = subst P (sym (get_d_set j)) (branch P (eqb i j) a (get_or l j d) (λ e. p) (λ e. q))
 
 -- of an element put in at a place, among the first n, and the others: m are left of those from the place on
 pub put_has : {A : Type 0} (P : A → Type 0) (d e : A) (m : ℕ) → P e → (l : List A) (at n : ℕ) → at ≤ length l → at ≤ n → n ≤ at + m → ((k : ℕ) → k < n → P (get_or l k d))

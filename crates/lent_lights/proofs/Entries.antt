@@ -19,7 +19,7 @@ use Rattle.ff_state.specs.Lights.{change_entry, replace_entry, insert_entry, sto
 use Rattle.ff_state.specs.State.{fresh_state, dirty_word}
 use Rattle.ff_state.specs.declared.lights.LightChanged.{LightChanged}
 use Rattle.ff_state.specs.declared.state.FfState.{FfState}
-use Rattle.ff_state.proofs.Found.{searched, place-below, entry-there}
+use Rattle.ff_state.proofs.Found.{searched, place_below, entry_there}
 use Rattle.lent_lights.specs.Table.{enables, changed_entry, ff_state_change_table, with_table, table_left}
 
 abbrev answered : LightChanged → ℕ × FfState
@@ -32,7 +32,7 @@ enables_byte how = flag_is (eqb how 1)
 
 -- a stored entry is one of the 56
 pub below : (es : List OverflowLight) (n i u : ℕ) (f : Found) → u ≡ used_count n → f ≡ find_entry (take u es) i → f.stored ≡ true → f.at < 56
-below es n i u f q e stored = place-below (with_table fresh_state es n) i f (searched (with_table fresh_state es n) i u f q e) stored
+below es n i u f q e stored = place_below (with_table fresh_state es n) i f (searched (with_table fresh_state es n) i u f q e) stored
 
 module _ (s : FfState) (es : List OverflowLight) (n i : ℕ) (l : D3DLIGHT9) (how : ℕ) (f : Found) (e : f ≡ found (with_table s es n) i) where
   abbrev t : FfState
@@ -55,7 +55,7 @@ module _ (s : FfState) (es : List OverflowLight) (n i : ℕ) (l : D3DLIGHT9) (ho
   unfolding replace_entry dirtied light_number
   stored_left stored d x is =
       ap (λ (y : OverflowLight). answered (replace_entry t f.at y))
-      (is ∙ ap (λ (b : ℕ). changed_entry l how b (get_or es f.at d)) (enables_byte how) ∙ ap change (entry-there t i f e stored d))
+      (is ∙ ap (λ (b : ℕ). changed_entry l how b (get_or es f.at d)) (enables_byte how) ∙ ap change (entry_there t i f e stored d))
       ∙ came true stored
 
   -- u is the count as the code reads it

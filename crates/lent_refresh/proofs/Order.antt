@@ -93,20 +93,20 @@ module _ (s : FfState) (k : FfVsKey) (bits : ℕ) where
   abbrev tail : List Float → List Float
   tail m = written_section Ambient bits s k (written_section Fog bits s k m)
 
-  past-tail : (σ : Section) → 40 ≤ first_float σ → first_float σ ≤ 4460 → (m : List Float) → 4460 ≤ length m → written_section σ bits s k (tail m) ≡ tail (written_section σ bits s k m)
+  past_tail : (σ : Section) → 40 ≤ first_float σ → first_float σ ≤ 4460 → (m : List Float) → 4460 ≤ length m → written_section σ bits s k (tail m) ≡ tail (written_section σ bits s k m)
   unfolding packed_rows
-  past-tail σ behind in-mirror m long =
+  past_tail σ behind in-mirror m long =
       past σ Ambient (omega (arith, length-floats (packed_rows Ambient k (inputs_of s)))) in-mirror (written_section Fog bits s k m) (longer Fog m long)
       ∙ ap (written_section Ambient bits s k) (past σ Fog (omega (arith, length-floats (packed_rows Fog k (inputs_of s)))) in-mirror m long)
 
   -- what is written does not depend on the dirty word
-  lights-clean : (m : List Float) → written_section Lights bits (with_ff_vs_dirty s 0) k m ≡ written_section Lights bits s k m
+  lights_clean : (m : List Float) → written_section Lights bits (with_ff_vs_dirty s 0) k m ≡ written_section Lights bits s k m
   unfolding written_section packed_rows active_lights light_active_mask
-  lights-clean m = refl
+  lights_clean m = refl
 
-  palette-clean : (m : List Float) → written_section Palette bits (with_ff_vs_dirty s 0) k m ≡ written_section Palette bits s k m
+  palette_clean : (m : List Float) → written_section Palette bits (with_ff_vs_dirty s 0) k m ≡ written_section Palette bits s k m
   unfolding written_section packed_rows
-  palette-clean m = refl
+  palette_clean m = refl
 
   -- the small ones, then the lights, the palette and the textures of the state that is clean already
   pub all_are : (m m₁ m₂ m₃ m₄ : List Float) → length m ≡ 4460
@@ -123,36 +123,36 @@ module _ (s : FfState) (k : FfVsKey) (bits : ℕ) where
       let long₄ : 4460 ≤ length (w Lights three) = longer Lights three long₃ in
       let long₅ : 4460 ≤ length (w Palette (w Lights three)) = longer Palette _ long₄ in
       e₄
-      ∙ ap (w Tt) (e₃ ∙ palette-clean m₂ ∙ ap (w Palette) (e₂ ∙ lights-clean m₁ ∙ ap (w Lights) e₁))
-      ∙ ap (λ (l : List Float). w Tt (w Palette l)) (past-tail Lights (lit≤ tt) (lit≤ tt) three long₃)
-      ∙ ap (w Tt) (past-tail Palette (lit≤ tt) (lit≤ tt) (w Lights three) long₄)
-      ∙ past-tail Tt (lit≤ tt) (lit≤ tt) (w Palette (w Lights three)) long₅
+      ∙ ap (w Tt) (e₃ ∙ palette_clean m₂ ∙ ap (w Palette) (e₂ ∙ lights_clean m₁ ∙ ap (w Lights) e₁))
+      ∙ ap (λ (l : List Float). w Tt (w Palette l)) (past_tail Lights (lit≤ tt) (lit≤ tt) three long₃)
+      ∙ ap (w Tt) (past_tail Palette (lit≤ tt) (lit≤ tt) (w Lights three) long₄)
+      ∙ past_tail Tt (lit≤ tt) (lit≤ tt) (w Palette (w Lights three)) long₅
 
-  pub palette-put : (m m₁ : List Float) → has_section bits Palette ≡ true
+  pub palette_put : (m m₁ : List Float) → has_section bits Palette ≡ true
       → m₁ ≡ put 380 (floats (palette_rows s.view (take (palette_matrices k) s.world_palette))) m → m₁ ≡ written_section Palette bits s k m
   unfolding written_section packed_rows
-  palette-put m m₁ on e = rw on e
+  palette_put m m₁ on e = rw on e
 
-  pub palette-not : (m : List Float) → has_section bits Palette ≡ false → m ≡ written_section Palette bits s k m
+  pub palette_not : (m : List Float) → has_section bits Palette ≡ false → m ≡ written_section Palette bits s k m
   unfolding written_section
-  palette-not m off = rw off
+  palette_not m off = rw off
 
   abbrev Due : Bool
   Due = has_section bits Lights && not (eqb k.light_active_mask 0)
 
-  pub lights-put : (m m₁ : List Float) → Due ≡ true
+  pub lights_put : (m m₁ : List Float) → Due ≡ true
       → m₁ ≡ put 60 (floats (lights_rows s.view (part_lights k s.lights s.light_set_mask s.light_enabled s.overflow_lights s.overflow_count))) m → m₁ ≡ written_section Lights bits s k m
   unfolding written_section packed_rows active_lights light_active_mask
-  lights-put m m₁ on e = go (has_section bits Lights) (eqb k.light_active_mask 0) on
+  lights_put m m₁ on e = go (has_section bits Lights) (eqb k.light_active_mask 0) on
     where
       go : (dirty none : Bool) → (dirty && not none) ≡ true → m₁ ≡ cond dirty (put 60 (floats (cond none [] (lights_rows s.view (take (light_limit k) (active_lights s))))) m) m
       go true false p = e
       go true true p = never (sym p)
       go false none p = never (sym p)
 
-  pub lights-not : (m : List Float) → Due ≡ false → m ≡ written_section Lights bits s k m
+  pub lights_not : (m : List Float) → Due ≡ false → m ≡ written_section Lights bits s k m
   unfolding written_section packed_rows floats
-  lights-not m off = go (has_section bits Lights) (eqb k.light_active_mask 0) off
+  lights_not m off = go (has_section bits Lights) (eqb k.light_active_mask 0) off
     where
       go : (dirty none : Bool) → (dirty && not none) ≡ false → m ≡ cond dirty (put 60 (floats (cond none [] (lights_rows s.view (take (light_limit k) (active_lights s))))) m) m
       go true true p = sym (put-none 60 m)

@@ -15,14 +15,14 @@ module _ (es : List OverflowLight) (full : length es ≡ 56) where
   length_inserted at e h = simp (length-append, length-take, length-drop) (omega arith)
 
   -- storing over the entry put in
-  pub set-inserted : (at : ℕ) (x e : OverflowLight) → at < 56 → set (inserted_at at x es) at e ≡ inserted_at at e es
+  pub set_inserted : (at : ℕ) (x e : OverflowLight) → at < 56 → set (inserted_at at x es) at e ≡ inserted_at at e es
   unfolding inserted_at
-  set-inserted at x e h = set_at (take at es) x (take (55 - at) (drop at es)) e at (length-take-le at es (omega arith))
+  set_inserted at x e h = set_at (take at es) x (take (55 - at) (drop at es)) e at (length-take-le at es (omega arith))
 
   -- the table as it is has its last entry put in before the last
-  pub last-twice : (d : OverflowLight) → inserted_at 55 (get_or es 55 d) es ≡ es
+  pub last_twice : (d : OverflowLight) → inserted_at 55 (get_or es 55 d) es ≡ es
   unfolding inserted_at
-  last-twice d =
+  last_twice d =
       sym (take-suc es 55 d (omega arith)) ∙ take_all 56 es (omega arith)
 
   -- an entry put in before itself is one put in behind itself
@@ -38,4 +38,4 @@ module _ (es : List OverflowLight) (full : length es ≡ 56) where
   -- a turn of the shift: the entry before k goes to k
   pub shifted : (k : ℕ) (x d : OverflowLight) → 0 < k → k < 56 → set (inserted_at k x es) k (get_or es (k - 1) d) ≡ inserted_at (k - 1) (get_or es (k - 1) d) es
   shifted zero x d z h = absurd (omega arith)
-  shifted (suc k) x d z h = set-inserted (suc k) x (get_or es (suc k - 1) d) h ∙ rw (sub-one (suc k)) (twice k d (omega arith))
+  shifted (suc k) x d z h = set_inserted (suc k) x (get_or es (suc k - 1) d) h ∙ rw (sub-one (suc k)) (twice k d (omega arith))

@@ -58,10 +58,10 @@ bound_most (e ∷ es) i =
 
 -- what is found stored stands among the entries, and has the index
 module _ (es : List OverflowLight) (i : ℕ) (h : (find_entry es i).stored ≡ true) where
-  pub stored-below : (find_entry es i).at < length es
+  pub stored_below : (find_entry es i).at < length es
   unfolding find_entry
-  stored-below = ltb-true (lower_bound es i) (length es) ((and-eq-true_iff (ltb (lower_bound es i) (length es)) (eqb (get_or es (lower_bound es i) zero_entry).index i)).0 h).0
+  stored_below = ltb-true (lower_bound es i) (length es) ((and-eq-true_iff (ltb (lower_bound es i) (length es)) (eqb (get_or es (lower_bound es i) zero_entry).index i)).0 h).0
 
-  pub stored-index : (get_or es (find_entry es i).at zero_entry).index ≡ i
+  pub stored_index : (get_or es (find_entry es i).at zero_entry).index ≡ i
   unfolding find_entry
-  stored-index = eqb-true (get_or es (lower_bound es i) zero_entry).index i ((and-eq-true_iff (ltb (lower_bound es i) (length es)) (eqb (get_or es (lower_bound es i) zero_entry).index i)).0 h).1
+  stored_index = eqb-true (get_or es (lower_bound es i) zero_entry).index i ((and-eq-true_iff (ltb (lower_bound es i) (length es)) (eqb (get_or es (lower_bound es i) zero_entry).index i)).0 h).1

@@ -15,27 +15,27 @@ use Rattle.light_table.specs.Overflow.{lower_bound, find_entry, ascending, inser
 use Rattle.light_table.specs.declared.entry.OverflowLight.{OverflowLight}
 use Rattle.light_table.specs.declared.overflow.Found.{Found}
 use Rattle.lemmas.proofs.Lists.{take-replicate}
-pub use Rattle.light_table.proofs.LowerBound.{bound_most, stored-below, stored-index}
+pub use Rattle.light_table.proofs.LowerBound.{bound_most, stored_below, stored_index}
 pub use Rattle.light_table.proofs.Insertion.{length_inserted}
 
 -- ---- a search, entry by entry
 
 module _ (x : OverflowLight) (es : List OverflowLight) (i : ℕ) where
-  bound-passed : x.index < i → lower_bound (x ∷ es) i ≡ suc (lower_bound es i)
+  bound_passed : x.index < i → lower_bound (x ∷ es) i ≡ suc (lower_bound es i)
   unfolding lower_bound
-  bound-passed h = rw (lt-ltb x.index i h)
+  bound_passed h = rw (lt-ltb x.index i h)
 
-  bound-stopped : i ≤ x.index → lower_bound (x ∷ es) i ≡ 0
+  bound_stopped : i ≤ x.index → lower_bound (x ∷ es) i ≡ 0
   unfolding lower_bound
-  bound-stopped h = rw (le-ltb x.index i h)
+  bound_stopped h = rw (le-ltb x.index i h)
 
-  pub find-passed : x.index < i → find_entry (x ∷ es) i ≡ record { stored = (find_entry es i).stored; at = suc (find_entry es i).at }
+  pub find_passed : x.index < i → find_entry (x ∷ es) i ≡ record { stored = (find_entry es i).stored; at = suc (find_entry es i).at }
   unfolding find_entry
-  find-passed h = rw (bound-passed h, leb-suc-suc)
+  find_passed h = rw (bound_passed h, leb-suc-suc)
 
-  pub find-stopped : i ≤ x.index → find_entry (x ∷ es) i ≡ record { stored = eqb x.index i; at = 0 }
+  pub find_stopped : i ≤ x.index → find_entry (x ∷ es) i ≡ record { stored = eqb x.index i; at = 0 }
   unfolding find_entry
-  find-stopped h = rw (bound-stopped h, lt-ltb 0 (suc (length es)) (omega arith))
+  find_stopped h = rw (bound_stopped h, lt-ltb 0 (suc (length es)) (omega arith))
 
 -- ---- ascending indices
 
@@ -46,9 +46,9 @@ module _ (from : ℕ) (x : OverflowLight) (es : List OverflowLight) where
       let p = (and-eq-true_iff (leb from x.index) (ascending (suc x.index) es)).0 h in
       (leb-true from x.index p.0, p.1)
 
-  ascending-cons : from ≤ x.index → ascending (suc x.index) es ≡ true → ascending from (x ∷ es) ≡ true
+  ascending_cons : from ≤ x.index → ascending (suc x.index) es ≡ true → ascending from (x ∷ es) ≡ true
   unfolding ascending
-  ascending-cons l h = (and-eq-true_iff (leb from x.index) (ascending (suc x.index) es)).1 (le-leb from x.index l, h)
+  ascending_cons l h = (and-eq-true_iff (leb from x.index) (ascending (suc x.index) es)).1 (le-leb from x.index l, h)
 
 pub from_below : (from : ℕ) (es : List OverflowLight) (k : ℕ) → ascending from es ≡ true → k < length es → from ≤ (get_or es k zero_entry).index
 from_below from [] k a h = absurd (not-suc-le-zero h)
@@ -57,15 +57,15 @@ from_below from (x ∷ es) (suc k) a h =
     let b = both from x es a in
     omega (arith, b.0, from_below (suc x.index) es k b.1 (le_of_suc-le-suc h))
 
--- the entry of an index is found where it stands. The other way round, what is found stored has the index: `stored-below` and `stored-index` of `overflow.LowerBound`, of any list
+-- the entry of an index is found where it stands. The other way round, what is found stored has the index: `stored_below` and `stored_index` of `overflow.LowerBound`, of any list
 pub finds : (from : ℕ) (es : List OverflowLight) (i k : ℕ) → ascending from es ≡ true → k < length es → (get_or es k zero_entry).index ≡ i
     → find_entry es i ≡ record { stored = true; at = k }
 finds from [] i k a h e = absurd (not-suc-le-zero h)
-finds from (x ∷ es) i zero a h e = find-stopped x es i (omega arith) ∙ ap {B = Found} (λ (b : Bool). record { stored = b; at = 0 }) (eq-eqb x.index i e)
+finds from (x ∷ es) i zero a h e = find_stopped x es i (omega arith) ∙ ap {B = Found} (λ (b : Bool). record { stored = b; at = 0 }) (eq-eqb x.index i e)
 finds from (x ∷ es) i (suc k) a h e =
     let t = (both from x es a).1 in
     let l : x.index < i = omega (arith, from_below (suc x.index) es k t (le_of_suc-le-suc h)) in
-    find-passed x es i l
+    find_passed x es i l
     ∙ ap {B = Found} (λ (f : Found). record { stored = f.stored; at = suc f.at }) (finds (suc x.index) es i k t (le_of_suc-le-suc h) e)
 
 pub absent : (from : ℕ) (es : List OverflowLight) (i k : ℕ) → ascending from es ≡ true → (find_entry es i).stored ≡ false → k < length es → (get_or es k zero_entry).index ≡ i → ⊥
@@ -82,7 +82,7 @@ set_same from (x ∷ es) (suc k) e h = ap (λ (b : Bool). leb from x.index && b)
 -- an entry in the place of the one found, with its index
 pub replaced_ascending : (from : ℕ) (es : List OverflowLight) (i : ℕ) (e : OverflowLight) → e.index ≡ i → (find_entry es i).stored ≡ true
     → ascending from (set es (find_entry es i).at e) ≡ ascending from es
-replaced_ascending from es i e q h = set_same from es (find_entry es i).at e (q ∙ sym (stored-index es i h))
+replaced_ascending from es i e q h = set_same from es (find_entry es i).at e (q ∙ sym (stored_index es i h))
 
 -- one entry more before a place
 abbrev pub put_in : ℕ → OverflowLight → List OverflowLight → List OverflowLight
@@ -92,18 +92,18 @@ put_in at e es = take at es ++ e ∷ drop at es
 pub inserted_ascending : (from : ℕ) (es : List OverflowLight) (i : ℕ) (e : OverflowLight) → e.index ≡ i → from ≤ i → ascending from es ≡ true → (find_entry es i).stored ≡ false
     → ascending from (put_in (lower_bound es i) e es) ≡ true
 unfolding lower_bound ascending
-inserted_ascending from [] i e q l a n = ascending-cons from e [] (omega arith) refl
+inserted_ascending from [] i e q l a n = ascending_cons from e [] (omega arith) refl
 inserted_ascending from (x ∷ es) i e q l a n =
     let b = both from x es a in
     branch (λ (k : ℕ). ascending from (put_in k e (x ∷ es)) ≡ true) (ltb x.index i) (suc (lower_bound es i)) 0
     (λ (t : ltb x.index i ≡ true).
     let p = ltb-true x.index i t in
-    ascending-cons from x (put_in (lower_bound es i) e es) b.0
-    (inserted_ascending (suc x.index) es i e q p b.1 (sym (ap (λ (f : Found). f.stored) (find-passed x es i p)) ∙ n)))
+    ascending_cons from x (put_in (lower_bound es i) e es) b.0
+    (inserted_ascending (suc x.index) es i e q p b.1 (sym (ap (λ (f : Found). f.stored) (find_passed x es i p)) ∙ n)))
     (λ (t : ltb x.index i ≡ false).
     let p = ltb-false x.index i t in
-    let d = eqb-false x.index i (sym (ap (λ (f : Found). f.stored) (find-stopped x es i p)) ∙ n) in
-    ascending-cons from e (x ∷ es) (omega arith) (ascending-cons (suc e.index) x es (omega arith) b.1))
+    let d = eqb-false x.index i (sym (ap (λ (f : Found). f.stored) (find_stopped x es i p)) ∙ n) in
+    ascending_cons from e (x ∷ es) (omega arith) (ascending_cons (suc e.index) x es (omega arith) b.1))
 
 -- ---- the table after an insertion among its first n entries
 
@@ -127,13 +127,13 @@ module _ (es : List OverflowLight) (n at : ℕ) (e : OverflowLight) (full : leng
   length-put = simp (length-append, length-take, length-drop) (omega (arith, length-used))
 
   -- the first n, with the entry put in
-  pub inserted-used : take (suc n) (inserted_at at e es) ≡ put_in at e (take n es)
-  inserted-used = ap (take (suc n)) parts ∙ take_at (put_in at e (take n es)) (take (55 - n) (drop n es)) (suc n) length-put
+  pub inserted_used : take (suc n) (inserted_at at e es) ≡ put_in at e (take n es)
+  inserted_used = ap (take (suc n)) parts ∙ take_at (put_in at e (take n es)) (take (55 - n) (drop n es)) (suc n) length-put
 
   -- the others move up, and the last is dropped
-  pub inserted-rest : drop (suc n) (inserted_at at e es) ≡ take (55 - n) (drop n es)
-  inserted-rest = ap (drop (suc n)) parts ∙ drop_at (put_in at e (take n es)) (take (55 - n) (drop n es)) (suc n) length-put
+  pub inserted_rest : drop (suc n) (inserted_at at e es) ≡ take (55 - n) (drop n es)
+  inserted_rest = ap (drop (suc n)) parts ∙ drop_at (put_in at e (take n es)) (take (55 - n) (drop n es)) (suc n) length-put
 
   -- so that unused entries that are zero stay so
-  pub inserted-zeros : drop n es ≡ replicate (56 - n) zero_entry → drop (suc n) (inserted_at at e es) ≡ replicate (55 - n) zero_entry
-  inserted-zeros z = inserted-rest ∙ ap (take (55 - n)) z ∙ take-replicate (55 - n) (56 - n) zero_entry (omega arith)
+  pub inserted_zeros : drop n es ≡ replicate (56 - n) zero_entry → drop (suc n) (inserted_at at e es) ≡ replicate (55 - n) zero_entry
+  inserted_zeros z = inserted_rest ∙ ap (take (55 - n)) z ∙ take-replicate (55 - n) (56 - n) zero_entry (omega arith)

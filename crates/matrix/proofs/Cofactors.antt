@@ -72,9 +72,9 @@ module _ (m : D3DMATRIX) (d : Float) (e : d ≡ determinant m) where
   unfolding inverse singular
   refused-zero z = rw (← e, z)
 
-  pub refused-infinite : eq d zero ≡ false → finite d ≡ false → Singular ≡ inverse m
+  pub refused_infinite : eq d zero ≡ false → finite d ≡ false → Singular ≡ inverse m
   unfolding inverse singular
-  refused-infinite z f = rw (← e, z, f)
+  refused_infinite z f = rw (← e, z, f)
 
   pub accepted : eq d zero ≡ false → finite d ≡ true → (x : D3DMATRIX) → x ≡ matrix_of (λ i j. times (cofactor m i j) (div binary32 one d))
       → Matrix x ≡ inverse m

@@ -1,5 +1,5 @@
 -- Document 02, T-12, in general: a row times a column is off from the exact sum by at most `parts` in 2 ^ 24 of the sum of the magnitudes. Four products that stand for the exact ones are added up
--- (`four-held`), and what they stand for is the exact sum, as integers. Assumes nothing.
+-- (`four_held`), and what they stand for is the exact sum, as integers. Assumes nothing.
 use Prim.Native.Nat.{ℕ, ◌+◌, ◌*◌, ◌^◌, ◌≤◌, ◌<◌}
 use native.Mathlib.Omega.{arith}
 use mathlib.Core.Path.{◌≡◌, refl, sym, ap, ap₂, subst, ◌∙◌}
@@ -22,10 +22,10 @@ use Rattle.matrix.proofs.Fits.{column_fits, row_fits}
 use Rattle.matrix_laws.specs.Exact.{with_sign, signed_units, exact_product, exact_sum, magnitude_sum, least_product, sum_limit, in_range, moderate, parts, Close}
 use Rattle.matrix_laws.proofs.Signed.{gain, loss, gain_scale, loss_scale}
 use Rattle.matrix_laws.proofs.Integers.{Is, is_sign, is_add, is_minus, abs_le, abs_sign, sign_mul, sign_scale}
-use Rattle.matrix_laws.proofs.Moderate.{in-range, sum_below, each-says}
+use Rattle.matrix_laws.proofs.Moderate.{in-range, sum_below, each_says}
 use Rattle.matrix_laws.proofs.Values.{has_finite, has_units}
 use Rattle.matrix_laws.proofs.Held.{Held}
-use Rattle.matrix_laws.proofs.Four.{Product, times-held, four-held}
+use Rattle.matrix_laws.proofs.Four.{Product, times-held, four_held}
 
 -- ---- what a float holds, as integers
 
@@ -47,7 +47,7 @@ held_near x e P N b w i h =
 
 module _ (a : Row) (m : D3DMATRIX) (j : ℕ) (A : rowFits a) (M : matrixFits m) (h : T (moderate a m j)) where
   abbrev says : (i : ℕ) → T (finite (column a i)) × T (finite (entry m i j)) × T (in_range (nat_abs (exact_product a m j i)))
-  says = each-says a m j h
+  says = each_says a m j h
 
   left : (i : ℕ) → Counted (column a i)
   left i = counted (column a i) (column_fits A i) (says i).0
@@ -67,18 +67,18 @@ module _ (a : Row) (m : D3DMATRIX) (j : ℕ) (A : rowFits a) (M : matrixFits m) 
       ap₂ (λ (y z : ℤ). y *ℤ z) (has_units (column a i) (left i).sign (in_units (column a i)) (left i).value) (has_units (entry m i j) (right i).sign (in_units (entry m i j)) (right i).value)
       ∙ sign_mul (left i).sign (right i).sign (in_units (column a i)) (in_units (entry m i j))
 
-  product-size : (i : ℕ) → nat_abs (exact_product a m j i) ≡ size i
-  product-size i = ap nat_abs (product_is i) ∙ abs_sign (sign i) (size i)
+  product_size : (i : ℕ) → nat_abs (exact_product a m j i) ≡ size i
+  product_size i = ap nat_abs (product_is i) ∙ abs_sign (sign i) (size i)
 
   abbrev total : ℕ
   total = size 0 + size 1 + size 2 + size 3
 
-  all-size : magnitude_sum a m j ≡ total
+  all_size : magnitude_sum a m j ≡ total
   unfolding magnitude_sum
-  all-size = rw (product-size 0, product-size 1, product-size 2, product-size 3)
+  all_size = rw (product_size 0, product_size 1, product_size 2, product_size 3)
 
   range : (i : ℕ) → (size i ≡ 0) ⊎ (least_product ≤ size i)
-  range i = in-range (size i) (subst (λ (z : ℕ). T (in_range z)) (product-size i) (says i).2)
+  range i = in-range (size i) (subst (λ (z : ℕ). T (in_range z)) (product_size i) (says i).2)
 
   abbrev P : ℕ → ℕ
   P i = gain (sign i) (size i)
@@ -86,16 +86,16 @@ module _ (a : Row) (m : D3DMATRIX) (j : ℕ) (A : rowFits a) (M : matrixFits m) 
   abbrev N : ℕ → ℕ
   N i = loss (sign i) (size i)
 
-  product-parts : (i : ℕ) → Is (exact_product a m j i) (P i) (N i)
-  product-parts i = subst (λ (z : ℤ). Is z (P i) (N i)) (sym (product_is i)) (is_sign (sign i) (size i))
+  product_parts : (i : ℕ) → Is (exact_product a m j i) (P i) (N i)
+  product_parts i = subst (λ (z : ℤ). Is z (P i) (N i)) (sym (product_is i)) (is_sign (sign i) (size i))
 
   sum-parts : Is (exact_sum a m j) (P 0 + P 1 + P 2 + P 3) (N 0 + N 1 + N 2 + N 3)
   unfolding exact_sum
   sum-parts =
       let t : ℕ → ℤ = exact_product a m j in
       is_add (t 0 +ℤ t 1 +ℤ t 2) (t 3) (P 0 + P 1 + P 2) (N 0 + N 1 + N 2) (P 3) (N 3)
-      (is_add (t 0 +ℤ t 1) (t 2) (P 0 + P 1) (N 0 + N 1) (P 2) (N 2) (is_add (t 0) (t 1) (P 0) (N 0) (P 1) (N 1) (product-parts 0) (product-parts 1)) (product-parts 2))
-      (product-parts 3)
+      (is_add (t 0 +ℤ t 1) (t 2) (P 0 + P 1) (N 0 + N 1) (P 2) (N 2) (is_add (t 0) (t 1) (P 0) (N 0) (P 1) (N 1) (product_parts 0) (product_parts 1)) (product_parts 2))
+      (product_parts 3)
 
   abbrev o : ℕ
   o = overflow binary32 * unit
@@ -105,7 +105,7 @@ module _ (a : Row) (m : D3DMATRIX) (j : ℕ) (A : rowFits a) (M : matrixFits m) 
   room = lit≤ tt
 
   below : total < sum_limit
-  below = subst (λ (z : ℕ). z < sum_limit) all-size (sum_below a m j h)
+  below = subst (λ (z : ℕ). z < sum_limit) all_size (sum_below a m j h)
 
   product : (i : ℕ) → size i ≤ total → Product (times (column a i) (entry m i j)) (P i) (N i) (size i)
   product i l =
@@ -115,13 +115,13 @@ module _ (a : Row) (m : D3DMATRIX) (j : ℕ) (A : rowFits a) (M : matrixFits m) 
       alone : (u o S T : ℕ) → 2 * u ≤ o → S ≤ T → T < u → 9 * S < 8 * o
       alone u o S T r h k = omega arith
 
-  pub dot-close : Close (dot a m j) a m j
+  pub dot_close : Close (dot a m j) a m j
   unfolding dot
-  dot-close =
-      let f = four-held sum_limit o room refl below (product 0 (omega arith)) (product 1 (omega arith)) (product 2 (omega arith)) (product 3 (omega arith)) in
+  dot_close =
+      let f = four_held sum_limit o room refl below (product 0 (omega arith)) (product 1 (omega arith)) (product 2 (omega arith)) (product 3 (omega arith)) in
       record {
         is_finite = has_finite (dot a m j) f.1.sign f.1.count unit f.1.value;
         near =
-            subst (λ (z : ℕ). nat_abs (signed_units (dot a m j) *ℤ pos unit -ℤ exact_sum a m j) * 2 ^ 24 ≤ parts * z) (sym all-size)
+            subst (λ (z : ℕ). nat_abs (signed_units (dot a m j) *ℤ pos unit -ℤ exact_sum a m j) * 2 ^ 24 ≤ parts * z) (sym all_size)
             (held_near (dot a m j) (exact_sum a m j) (P 0 + P 1 + P 2 + P 3) (N 0 + N 1 + N 2 + N 3) (parts * total) f.0 sum-parts f.1);
       }

@@ -81,9 +81,9 @@ zero_held {l} {x} {P} {N} {e} {m} {o} h is u =
 
 module _ (u o : ℕ) (room : 2 * u ≤ o) (is : o ≡ overflow binary32 * unit) {x₀ x₁ x₂ x₃ : Float} {P₀ N₀ M₀ P₁ N₁ M₁ P₂ N₂ M₂ P₃ N₃ M₃ : ℕ} (small : M₀ + M₁ + M₂ + M₃ < u)
     (t₀ : Product x₀ P₀ N₀ M₀) (t₁ : Product x₁ P₁ N₁ M₁) (t₂ : Product x₂ P₂ N₂ M₂) (t₃ : Product x₃ P₃ N₃ M₃) where
-  pub four-held : (w : ℕ) × Held unit (sum (x₀ ∷ x₁ ∷ x₂ ∷ x₃ ∷ [])) (P₀ + P₁ + P₂ + P₃) (N₀ + N₁ + N₂ + N₃) (parts * (M₀ + M₁ + M₂ + M₃)) w
+  pub four_held : (w : ℕ) × Held unit (sum (x₀ ∷ x₁ ∷ x₂ ∷ x₃ ∷ [])) (P₀ + P₁ + P₂ + P₃) (N₀ + N₁ + N₂ + N₃) (parts * (M₀ + M₁ + M₂ + M₃)) w
   unfolding sum_from
-  four-held =
+  four_held =
       let z₀ = zero_held t₀.2 is (omega (arith, t₀.1)) in
       let z₁ = plus-held z₀ t₁.2 is (omega (arith, t₀.1, t₁.1)) in
       let z₂ = plus-held {m = z₁.0} z₁.2 t₂.2 is (omega (arith, t₀.1, t₁.1, t₂.1, z₁.1)) in

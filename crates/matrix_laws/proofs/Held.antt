@@ -85,18 +85,18 @@ pub record Held (l : ℕ) (x : Float) (P N e m : ℕ) : Type 0 where
   pub size : count * l ≤ m
 
 module _ (l A B m m' : ℕ) (h : A * l ≤ m) (k : B * l ≤ m') where
-  sum-size : (A + B) * l ≤ m + m'
-  sum-size = le_trans (le_of_eq (add-mul A B l)) (let z : A * l + B * l ≤ m + m' = omega arith in z)
+  sum_size : (A + B) * l ≤ m + m'
+  sum_size = le_trans (le_of_eq (add-mul A B l)) (let z : A * l + B * l ≤ m + m' = omega arith in z)
 
-  sum-under : (o : ℕ) → 9 * (m + m') < 8 * (o * l) → 9 * (A + B) < 8 * o
-  sum-under o u =
-      let z = sum-size in
+  sum_under : (o : ℕ) → 9 * (m + m') < 8 * (o * l) → 9 * (A + B) < 8 * o
+  sum_under o u =
+      let z = sum_size in
       let w : 9 * ((A + B) * l) < 8 * (o * l) = omega arith in
       lt_of_mul-lt-mul_right l (lt_of_le_of_lt (le_of_eq (mul_assoc 9 (A + B) l)) (subst (λ (x : ℕ). 9 * ((A + B) * l) < x) (sym (mul_assoc 8 o l)) w))
 
-  grown-size : (g : ℕ) → 8 * g ≤ 9 * (A + B) → 8 * (g * l) ≤ 9 * (m + m')
-  grown-size g b =
-      let z = sum-size in
+  grown_size : (g : ℕ) → 8 * g ≤ 9 * (A + B) → 8 * (g * l) ≤ 9 * (m + m')
+  grown_size g b =
+      let z = sum_size in
       let w : 8 * (g * l) ≤ 9 * ((A + B) * l) = le_trans (le_of_eq (sym (mul_assoc 8 g l))) (le_trans (mul-le-mul_right l b) (le_of_eq (mul_assoc 9 (A + B) l))) in
       omega arith
 
@@ -108,15 +108,15 @@ plus-held {l} {x} {y} {P} {N} {e} {m} {P'} {N'} {e'} {m'} {o} h k is u =
     let t : Bool = k.sign in
     let A : ℕ = h.count in
     let B : ℕ = k.count in
-    let under = sum-under l A B m m' h.size k.size (overflow binary32) (subst (λ (z : ℕ). 9 * (m + m') < 8 * z) is u) in
+    let under = sum_under l A B m m' h.size k.size (overflow binary32) (subst (λ (z : ℕ). 9 * (m + m') < 8 * z) is u) in
     let S : Added (plus x y) s A t B = added x y s t A B h.value k.value under in
     let p : ℕ = gain S.sign S.count in
     let n : ℕ = loss S.sign S.count in
     let d : Off (p * l) (n * l) ((gain s A + gain t B) * l) ((loss s A + loss t B) * l) (m + m') =
-    off_more (p * l) (n * l) ((gain s A + gain t B) * l) ((loss s A + loss t B) * l) ((A + B) * l) (m + m') (sum-size l A B m m' h.size k.size)
+    off_more (p * l) (n * l) ((gain s A + gain t B) * l) ((loss s A + loss t B) * l) ((A + B) * l) (m + m') (sum_size l A B m m' h.size k.size)
     (off_scale p n (gain s A + gain t B) (loss s A + loss t B) (A + B) l S.off) in (
       S.count * l,
-      grown-size l A B m m' h.size k.size S.count S.size,
+      grown_size l A B m m' h.size k.size S.count S.size,
       record {
         sign = S.sign;
         count = S.count;

@@ -47,18 +47,18 @@ module _ (a : Row) (m : D3DMATRIX) (j : ℕ) (h : T (moderate a m j)) where
   pub sum_below : magnitude_sum a m j < sum_limit
   sum_below = ltb→lt (magnitude_sum a m j) sum_limit (and_r (p 3) last has₃)
 
-  all-moderate : (i : ℕ) → T (p i)
+  all_moderate : (i : ℕ) → T (p i)
   unfolding moderate moderate_product exact_product column row
-  all-moderate zero = and_l (p 0) from₁ h
-  all-moderate (suc zero) = and_l (p 1) from₂ has₁
-  all-moderate (suc (suc zero)) = and_l (p 2) from₃ has₂
-  all-moderate (suc (suc (suc i))) = and_l (p 3) last has₃
+  all_moderate zero = and_l (p 0) from₁ h
+  all_moderate (suc zero) = and_l (p 1) from₂ has₁
+  all_moderate (suc (suc zero)) = and_l (p 2) from₃ has₂
+  all_moderate (suc (suc (suc i))) = and_l (p 3) last has₃
 
-  pub each-says : (i : ℕ) → T (finite (column a i)) × T (finite (entry m i j)) × T (in_range (nat_abs (exact_product a m j i)))
+  pub each_says : (i : ℕ) → T (finite (column a i)) × T (finite (entry m i j)) × T (in_range (nat_abs (exact_product a m j i)))
   unfolding moderate_product
-  each-says i =
+  each_says i =
       let x = finite (column a i) in
       let y = finite (entry m i j) in
       let z = in_range (nat_abs (exact_product a m j i)) in
-      let t = all-moderate i in
+      let t = all_moderate i in
       (and_l x (y && z) t, and_l y z (and_r x (y && z) t), and_r y z (and_r x (y && z) t))

@@ -42,8 +42,8 @@ module _ (a c : ℕ) (C : 0 < c) (digits : 24 ≤ size (a * 2 ^ 149 / c)) where
       (le_of_eq (mul_left_comm (2 ^ 23) c (2 ^ k) ∙ mul_comm c (2 ^ 23 * 2 ^ k) ∙ ap (λ (x : ℕ). x * c) (sym (pow-add 2 23 k))))
       ((le-div_iff_mul-le C).0 (size_reaches (n / c) (23 + k) top))
 
-  normal-near : Near n (grid binary32 a c * c)
-  normal-near =
+  normal_near : Near n (grid binary32 a c * c)
+  normal_near =
       subst (Near n) (mul_left_comm (closest n u) c (2 ^ k) ∙ mul_comm c (closest n u * 2 ^ k))
       (from_half n u (closest n u * u) step_small (half_step n u (mul-pos C (pow_pos k))))
 
@@ -68,11 +68,11 @@ count_near a = go (ltb a (2 ^ 24)) refl
     go true e = near_self a (grid binary32 a unit) (subst (λ (x : ℕ). grid binary32 x unit ≡ x) (mul-one a) (exact a 0 (ltb-true a (2 ^ 24) e)))
     go false e =
         near_cancel a (grid binary32 a unit) unit (pow_pos 149)
-        (normal-near a unit (pow_pos 149) (subst (λ (x : ℕ). 24 ≤ size x) (sym (mul-div_cancel a (pow_pos 149))) (le_trans (lit≤ tt) (long a 24 (ltb-false a (2 ^ 24) e)))))
+        (normal_near a unit (pow_pos 149) (subst (λ (x : ℕ). 24 ≤ size x) (sym (mul-div_cancel a (pow_pos 149))) (le_trans (lit≤ tt) (long a 24 (ltb-false a (2 ^ 24) e)))))
 
 -- a product of two, rounded to a count of units
 pub product_near : (a : ℕ) → least_product ≤ a → Near a (grid binary32 a (2 ^ 298) * unit)
-product_near a h = apart unit (pow_pos 149) (normal-near a (2 ^ 298) (pow_pos 298) (normal_of_fraction binary32 a (2 ^ 298) (pow_pos 298) (le_trans (lit≤ {m = 2 ^ 23 * 2 ^ 298} {n = least_product * 2 ^ 149} tt) (mul-le-mul_right (2 ^ 149) h))))
+product_near a h = apart unit (pow_pos 149) (normal_near a (2 ^ 298) (pow_pos 298) (normal_of_fraction binary32 a (2 ^ 298) (pow_pos 298) (le_trans (lit≤ {m = 2 ^ 23 * 2 ^ 298} {n = least_product * 2 ^ 149} tt) (mul-le-mul_right (2 ^ 149) h))))
   where
     apart : (l : ℕ) → 0 < l → Near (a * l) (grid binary32 a (2 ^ 298) * (l * l)) → Near a (grid binary32 a (2 ^ 298) * l)
     apart l L near = near_cancel a (grid binary32 a (2 ^ 298) * l) l L (subst (Near (a * l)) (sym (mul_assoc (grid binary32 a (2 ^ 298)) l l)) near)

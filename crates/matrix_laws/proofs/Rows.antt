@@ -86,11 +86,11 @@ module _ (view : D3DMATRIX) (worlds : List D3DMATRIX) where
   rows-length : length rows ≡ 4 * length worlds
   rows-length = length_rows_of (world_view_rows view) 4 (four_rows view) worlds
 
-  pub world-within : (n : ℕ) → n < length (floats rows) → n / 16 < length worlds
-  world-within n h = omega (arith, length-floats rows, rows-length)
+  pub world_within : (n : ℕ) → n < length (floats rows) → n / 16 < length worlds
+  world_within n h = omega (arith, length-floats rows, rows-length)
 
-  pub world-float : (n : ℕ) → n < length (floats rows) → get_or (floats rows) n nan ≡ dot (row (get_or worlds (n / 16) no_matrix) (n % 4)) view (n / 4 % 4)
-  world-float n h =
+  pub world_float : (n : ℕ) → n < length (floats rows) → get_or (floats rows) n nan ≡ dot (row (get_or worlds (n / 16) no_matrix) (n % 4)) view (n / 4 % 4)
+  world_float n h =
       let place : n ≡ 4 * (n / 4) + n % 4 = omega arith in
       let item : n / 4 ≡ 4 * (n / 16) + n / 4 % 4 = omega arith in
       let r : n / 4 % 4 < 4 = omega arith in
@@ -98,5 +98,5 @@ module _ (view : D3DMATRIX) (worlds : List D3DMATRIX) where
       ap (λ (i : ℕ). get_or (floats rows) i nan) place
       ∙ float_of_row rows (n / 4) (n % 4) nan no_row (omega (arith, length-floats rows)) c
       ∙ ap (λ (i : ℕ). column (get_or rows i no_row) (n % 4)) item
-      ∙ ap (λ (a : Row). column a (n % 4)) (row_of_item (world_view_rows view) worlds (n / 16) (n / 4 % 4) no_matrix no_row (four_rows view) (world-within n h) r)
+      ∙ ap (λ (a : Row). column a (n % 4)) (row_of_item (world_view_rows view) worlds (n / 16) (n / 4 % 4) no_matrix no_row (four_rows view) (world_within n h) r)
       ∙ world_view_row view (get_or worlds (n / 16) no_matrix) (n / 4 % 4) (n % 4) no_row r c

@@ -30,9 +30,9 @@ use Rattle.packing.specs.Inputs.{Inputs, packed_rows, inputs_of}
 use Rattle.packing.specs.Pack.{state_rows}
 use Rattle.matrix_laws.specs.Exact.{Close, IsWhole, whole_sum}
 use Rattle.matrix_laws.specs.Rows.{world_at, MatricesFit, world_row, view_column, EachClose, EachWhole}
-use Rattle.matrix_laws.proofs.Dot.{dot-close}
-use Rattle.matrix_laws.proofs.Whole.{dot-whole}
-use Rattle.matrix_laws.proofs.Rows.{world-within, world-float}
+use Rattle.matrix_laws.proofs.Dot.{dot_close}
+use Rattle.matrix_laws.proofs.Whole.{dot_whole}
+use Rattle.matrix_laws.proofs.Rows.{world_within, world_float}
 
 -- past the palette there are NaNs, which are f32 values
 no_matrix_fits : matrixFits no_matrix
@@ -42,8 +42,8 @@ no_matrix_fits =
     record { r0 = r; r1 = r; r2 = r; r3 = r }
 
 module _ (i : Inputs) (fit : MatricesFit i) where
-  world-fits : (w : ℕ) → matrixFits (world_at i w)
-  world-fits w = go (ltb w (length i.palette)) refl
+  world_fits : (w : ℕ) → matrixFits (world_at i w)
+  world_fits w = go (ltb w (length i.palette)) refl
     where
       go : (t : Bool) → ltb w (length i.palette) ≡ t → matrixFits (world_at i w)
       go true e = fit.world w (ltb-true w (length i.palette) e)
@@ -53,62 +53,62 @@ module _ (i : Inputs) (fit : MatricesFit i) where
   abbrev Products : List Float → Type 0
   Products xs = (n : ℕ) → n < length xs → get_or xs n nan ≡ dot (world_row i n) i.view (view_column n)
 
-  each-close : (xs : List Float) → Products xs → EachClose i xs
-  each-close xs is n l h =
+  each_close : (xs : List Float) → Products xs → EachClose i xs
+  each_close xs is n l h =
       subst (λ (x : Float). Close x (world_row i n) i.view (view_column n)) (sym (is n l))
-      (dot-close (world_row i n) i.view (view_column n) (row_fits (world-fits (n / 16)) (n % 4)) fit.view h)
+      (dot_close (world_row i n) i.view (view_column n) (row_fits (world_fits (n / 16)) (n % 4)) fit.view h)
 
-  each-whole : (xs : List Float) → Products xs → EachWhole i xs
-  each-whole xs is n l u v h g =
+  each_whole : (xs : List Float) → Products xs → EachWhole i xs
+  each_whole xs is n l u v h g =
       subst (λ (x : Float). IsWhole x (whole_sum u v (n % 4) (view_column n))) (sym (is n l))
-      (dot-whole (world_at i (n / 16)) i.view (world-fits (n / 16)) fit.view u v h g (n % 4) (view_column n) (omega arith) (omega arith))
+      (dot_whole (world_at i (n / 16)) i.view (world_fits (n / 16)) fit.view u v h g (n % 4) (view_column n) (omega arith) (omega arith))
 
   module _ (k : FfVsKey) where
-    wv-products : Products (floats (packed_rows Wv k i))
+    wv_products : Products (floats (packed_rows Wv k i))
     unfolding packed_rows
-    wv-products = subst (λ (rs : List Row). Products (floats rs)) (rows_of_one (world_view_rows i.view) (world_at i 0)) one
+    wv_products = subst (λ (rs : List Row). Products (floats rs)) (rows_of_one (world_view_rows i.view) (world_at i 0)) one
       where
         one : Products (floats (rows_of (world_view_rows i.view) (world_at i 0 ∷ [])))
         one n l =
-            let first : n / 16 ≡ 0 = omega (arith, world-within i.view (world_at i 0 ∷ []) n l) in
-            world-float i.view (world_at i 0 ∷ []) n l
+            let first : n / 16 ≡ 0 = omega (arith, world_within i.view (world_at i 0 ∷ []) n l) in
+            world_float i.view (world_at i 0 ∷ []) n l
             ∙ ap (λ (m : D3DMATRIX). dot (row m (n % 4)) i.view (view_column n)) (ap (λ (w : ℕ). get_or (world_at i 0 ∷ []) w no_matrix) first ∙ ap (world_at i) (sym first))
 
-    palette-products : Products (floats (packed_rows Palette k i))
+    palette_products : Products (floats (packed_rows Palette k i))
     unfolding packed_rows palette_rows
-    palette-products n l =
+    palette_products n l =
         let worlds : List D3DMATRIX = take (palette_matrices k) i.palette in
-        let within : n / 16 < palette_matrices k = lt_of_lt_of_le (world-within i.view worlds n l) (le_trans (le_of_eq (length-take (palette_matrices k) i.palette)) (min-le_left (palette_matrices k) (length i.palette))) in
-        world-float i.view worlds n l
+        let within : n / 16 < palette_matrices k = lt_of_lt_of_le (world_within i.view worlds n l) (le_trans (le_of_eq (length-take (palette_matrices k) i.palette)) (min-le_left (palette_matrices k) (length i.palette))) in
+        world_float i.view worlds n l
         ∙ ap (λ (m : D3DMATRIX). dot (row m (n % 4)) i.view (view_column n)) (get_or-take (palette_matrices k) i.palette (n / 16) no_matrix within)
 
-    pub wv-close : EachClose i (floats (packed_rows Wv k i))
-    wv-close = each-close (floats (packed_rows Wv k i)) wv-products
+    pub wv_close : EachClose i (floats (packed_rows Wv k i))
+    wv_close = each_close (floats (packed_rows Wv k i)) wv_products
 
-    pub wv-whole : EachWhole i (floats (packed_rows Wv k i))
-    wv-whole = each-whole (floats (packed_rows Wv k i)) wv-products
+    pub wv_whole : EachWhole i (floats (packed_rows Wv k i))
+    wv_whole = each_whole (floats (packed_rows Wv k i)) wv_products
 
-    pub palette-close : EachClose i (floats (packed_rows Palette k i))
-    palette-close = each-close (floats (packed_rows Palette k i)) palette-products
+    pub palette_close : EachClose i (floats (packed_rows Palette k i))
+    palette_close = each_close (floats (packed_rows Palette k i)) palette_products
 
-    pub palette-whole : EachWhole i (floats (packed_rows Palette k i))
-    palette-whole = each-whole (floats (packed_rows Palette k i)) palette-products
+    pub palette_whole : EachWhole i (floats (packed_rows Palette k i))
+    palette_whole = each_whole (floats (packed_rows Palette k i)) palette_products
 
 -- ---- of a valid state
 
 module _ {s : FfState} (v : Valid s) where
-  matrices-fit : MatricesFit (inputs_of s)
-  matrices-fit = record { view = v.floats.view; world = λ w l. v.floats.palette w (omega (arith, v.palette_length)) }
+  matrices_fit : MatricesFit (inputs_of s)
+  matrices_fit = record { view = v.floats.view; world = λ w l. v.floats.palette w (omega (arith, v.palette_length)) }
 
   module _ (k : FfVsKey) where
-    pub state-wv-close : EachClose (inputs_of s) (state_rows Wv s k)
-    state-wv-close = wv-close (inputs_of s) matrices-fit k
+    pub state_wv_close : EachClose (inputs_of s) (state_rows Wv s k)
+    state_wv_close = wv_close (inputs_of s) matrices_fit k
 
-    pub state-wv-whole : EachWhole (inputs_of s) (state_rows Wv s k)
-    state-wv-whole = wv-whole (inputs_of s) matrices-fit k
+    pub state_wv_whole : EachWhole (inputs_of s) (state_rows Wv s k)
+    state_wv_whole = wv_whole (inputs_of s) matrices_fit k
 
-    pub state-palette-close : EachClose (inputs_of s) (state_rows Palette s k)
-    state-palette-close = palette-close (inputs_of s) matrices-fit k
+    pub state_palette_close : EachClose (inputs_of s) (state_rows Palette s k)
+    state_palette_close = palette_close (inputs_of s) matrices_fit k
 
-    pub state-palette-whole : EachWhole (inputs_of s) (state_rows Palette s k)
-    state-palette-whole = palette-whole (inputs_of s) matrices-fit k
+    pub state_palette_whole : EachWhole (inputs_of s) (state_rows Palette s k)
+    state_palette_whole = palette_whole (inputs_of s) matrices_fit k

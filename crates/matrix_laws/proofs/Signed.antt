@@ -52,9 +52,9 @@ module _ (a A b B c l : ℕ) (C : 0 < c) (L : 0 < l) (p : a * l ≡ A * c) (q : 
 
 -- of unlike signs
 module _ (a A b B c l : ℕ) (C : 0 < c) (L : 0 < l) (p : a * l ≡ A * c) (q : b * l ≡ B * c) where
-  from-gain : Sums (sum binary32 false a true b c) l false A true B
+  from_gain : Sums (sum binary32 false a true b c) l false A true B
   unfolding sum
-  from-gain =
+  from_gain =
       branch (λ (x : Float). Sums x l false A true B) (ltb a b) (round binary32 true (b - a) c) (round binary32 false (a - b) c)
       (λ (e : ltb a b ≡ true).
       let k : A ≤ B = order a A b B c l C L p q (le_of_lt (ltb-true a b e)) in
@@ -68,9 +68,9 @@ module _ (a A b B c l : ℕ) (C : 0 < c) (L : 0 < l) (p : a * l ≡ A * c) (q : 
   level true k f = omega arith
   level false k f = let g : A ≤ B = f refl in omega arith
 
-  from-loss : Sums (sum binary32 true a false b c) l true A false B
+  from_loss : Sums (sum binary32 true a false b c) l true A false B
   unfolding sum
-  from-loss =
+  from_loss =
       branch (λ (x : Float). Sums x l true A false B) (ltb a b) (round binary32 false (b - a) c) (round binary32 (ltb b a) (a - b) c)
       (λ (e : ltb a b ≡ true).
       let k : A ≤ B = order a A b B c l C L p q (le_of_lt (ltb-true a b e)) in
@@ -90,7 +90,7 @@ add_is x y true true A B l L h k = record { sign = true; count = A + B; is = add
 add_is x y false false A B l L h k = record { sign = false; count = A + B; is = add-alike x y false A B l L h k; balance = omega arith; small = omega arith }
 add_is x y false true A B l L h k =
     let c = common x y false true A B l h k in
-    subst (λ (z : Float). Sums z l false A true B) (sym c.is) (from-gain c.first A c.second B c.below l c.below_pos L c.first-is c.second_is)
+    subst (λ (z : Float). Sums z l false A true B) (sym c.is) (from_gain c.first A c.second B c.below l c.below_pos L c.first-is c.second_is)
 add_is x y true false A B l L h k =
     let c = common x y true false A B l h k in
-    subst (λ (z : Float). Sums z l true A false B) (sym c.is) (from-loss c.first A c.second B c.below l c.below_pos L c.first-is c.second_is)
+    subst (λ (z : Float). Sums z l true A false B) (sym c.is) (from_loss c.first A c.second B c.below l c.below_pos L c.first-is c.second_is)

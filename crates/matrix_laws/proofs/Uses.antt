@@ -24,7 +24,7 @@ use Rattle.packing.specs.Pack.{state_rows}
 use Rattle.matrix_laws.specs.Exact.{signed_units, exact_product, magnitude_sum, moderate_product, moderate, Close, IsWhole, WholeEntries, whole_sum}
 use Rattle.matrix_laws.specs.Rows.{world_at, MatricesFit}
 use Rattle.matrix_laws.proofs.Tables.{wholes, wholes_fit, wholes_are}
-use Rattle.matrix_laws.proofs.Sections.{wv-whole, palette-close, palette-whole}
+use Rattle.matrix_laws.proofs.Sections.{wv_whole, palette_close, palette_whole}
 
 first : ℕ → ℕ → ℤ
 first i j = pos (3 * i + j)
@@ -63,9 +63,9 @@ seen_whole = wholes_are seen (λ i j I J. let z : suc (1023 - (5 * i + j)) ≤ 1
 
 module _ (k : FfVsKey) where
   -- −(3 × 1,022 + 4 × 1,017 + 5 × 1,012 + 6 × 1,007)
-  wv-nine : IsWhole (get_or (state_rows Wv state k) 9 nan) (negsuc 18_235)
+  wv_nine : IsWhole (get_or (state_rows Wv state k) 9 nan) (negsuc 18_235)
   unfolding first seen whole_sum packed_rows world_view_rows floats
-  wv-nine = wv-whole (inputs_of state) fit k 9 (lit< tt) first seen first_whole seen_whole
+  wv_nine = wv_whole (inputs_of state) fit k 9 (lit< tt) first seen first_whole seen_whole
 
   module _ (two : palette_matrices k ≡ 2) where
     long : 25 < length (state_rows Palette state k)
@@ -73,10 +73,10 @@ module _ (k : FfVsKey) where
     long = subst (λ (n : ℕ). 25 < length (floats (palette_rows (wholes seen) (take n worlds)))) (sym two) (lit< tt)
 
     -- −(1,008 × 1,022 + 1,005 × 1,017 + 1,002 × 1,012 + 999 × 1,007)
-    palette-twenty-five : IsWhole (get_or (state_rows Palette state k) 25 nan) (negsuc 4_072_277)
+    palette_twenty_five : IsWhole (get_or (state_rows Palette state k) 25 nan) (negsuc 4_072_277)
     unfolding second seen whole_sum
-    palette-twenty-five = palette-whole (inputs_of state) fit k 25 long second seen second_whole seen_whole
+    palette_twenty_five = palette_whole (inputs_of state) fit k 25 long second seen second_whole seen_whole
 
-    palette-close-there : Close (get_or (state_rows Palette state k) 25 nan) (row (wholes second) 1) (wholes seen) 2
+    palette_close_there : Close (get_or (state_rows Palette state k) 25 nan) (row (wholes second) 1) (wholes seen) 2
     unfolding second seen moderate moderate_product magnitude_sum exact_product signed_units in_units column row of_int
-    palette-close-there = palette-close (inputs_of state) fit k 25 long tt
+    palette_close_there = palette_close (inputs_of state) fit k 25 long tt

@@ -130,9 +130,9 @@ module _ (a b : D3DMATRIX) (A : matrixFits a) (B : matrixFits b) (n k : ℕ → 
       (sym (ap₂ (λ (y z : ℤ). y *ℤ z) (left l L).is (right l L).is ∙ sign_mul (left l L).sign (right l L).sign (nat_abs (n i l)) (nat_abs (k l j))))
       (is_sign (sign l L) (size l))
 
-  pub dot-whole : IsWhole (dot (row a i) b j) (whole_sum n k i j)
+  pub dot_whole : IsWhole (dot (row a i) b j) (whole_sum n k i j)
   unfolding dot sum_from whole_sum
-  dot-whole =
+  dot_whole =
       let L₀ : 0 < 4 = omega arith in
       let L₁ : 1 < 4 = omega arith in
       let L₂ : 2 < 4 = omega arith in

@@ -10,7 +10,7 @@ use lib.Ieee.Fits.{and_l, and_r}
 use Rattle.image_reasons.specs.Reasons.{refused}
 use Rattle.image.specs.Read.{state_of}
 use Rattle.calls.specs.Answer.{answer}
-use Rattle.calls.proofs.Calls.{reading-done}
+use Rattle.calls.proofs.Calls.{reading_done}
 use Rattle.sections.specs.Counts.{places, light_count, palette_matrices, palette_count, texture_count}
 use Rattle.sections.specs.RowCount as RowCount
 use Rattle.sections.specs.RowCount.{lighting_reach, texture_reach, palette_reach}
@@ -76,14 +76,14 @@ module _ (image : List ℕ) (h : refused image ≡ false) (out : ℕ) where
   counted [] all = tt
   counted (c ∷ cs) all =
       let rows : RowCount.ff_vs_row_count c.key c.textures ≡ c.rows = eqb→eq (RowCount.ff_vs_row_count c.key c.textures) c.rows (and_l (right c) (every cs) all) in (
-        λ e. sym (reading-done _ _ _ _ _ h refl refl (sym (ap (RowCount.ff_vs_row_count c.key) e ∙ rows))),
+        λ e. sym (reading_done _ _ _ _ _ h refl refl (sym (ap (RowCount.ff_vs_row_count c.key) e ∙ rows))),
         counted cs (and_r (right c) (every cs) all),
       )
 
-  host-counts : Counted cases
-  host-counts = counted cases counts_right
+  host_counts : Counted cases
+  host_counts = counted cases counts_right
 
   -- TT's rows: four for each stage up to the mask's highest bit, under any key
-  tt-rows : (state_of image).tt_active_mask ≡ 4 → (k : FfVsKey) → ff_section_rows Tt image k out ≡ answer 0 12
+  tt_rows : (state_of image).tt_active_mask ≡ 4 → (k : FfVsKey) → ff_section_rows Tt image k out ≡ answer 0 12
   unfolding texture_count places count_leading_zeros
-  tt-rows e k = sym (reading-done _ _ _ _ _ h refl refl (sym (ap texture_count e)))
+  tt_rows e k = sym (reading_done _ _ _ _ _ h refl refl (sym (ap texture_count e)))

@@ -17,7 +17,7 @@ use Rattle.image_reasons.specs.Reasons.{refused}
 use Rattle.calls.specs.Answer.{answered}
 use Rattle.calls.specs.Call.{call_code, reading}
 use Rattle.calls.proofs.Answers.{next_zero}
-use Rattle.sections.proofs.Tiles.{fits-mirror}
+use Rattle.sections.proofs.Tiles.{fits_mirror}
 use Rattle.sections.specs.declared.key.FfVsKey.{FfVsKey}
 use Rattle.pack_calls.specs.Fill.{mask_number, fill_bytes, fill_number, ff_fill_section}
 use Rattle.packing.specs.Inputs.{mask_accepted, inputs_of}
@@ -39,26 +39,26 @@ module _ (σ : Section) (s : FfState) (k : FfVsKey) {rows : ℕ} (is : rows ≡ 
   four_rows : 4 * (4 * rows) ≡ 16 * state_count σ s k
   four_rows = omega (arith, is)
 
-  pub fill-fits : k.vertex_blend_count < 256 → 4 * rows ≤ 4460
-  fill-fits byte = omega (arith, is, fits-mirror k (inputs_of s).texture_mask byte σ)
+  pub fill_fits : k.vertex_blend_count < 256 → 4 * rows ≤ 4460
+  fill_fits byte = omega (arith, is, fits_mirror k (inputs_of s).texture_mask byte σ)
 
   -- a buffer of the mirror's floats has the section's at its front
   pub front : k.vertex_blend_count < 256 → (xs : List Float) → length xs ≡ 4460 → length (take (4 * rows) xs) ≡ 4 * rows
-  front byte xs e = length-take-le (4 * rows) xs (omega (arith, e, fill-fits byte))
+  front byte xs e = length-take-le (4 * rows) xs (omega (arith, e, fill_fits byte))
 
-  pub front-rows : k.vertex_blend_count < 256 → (xs : List Float) → length xs ≡ 4460 → length (take (4 * rows) xs) ≡ 4 * state_count σ s k
-  front-rows byte xs e = front byte xs e ∙ ap (λ (n : ℕ). 4 * n) is
+  pub front_rows : k.vertex_blend_count < 256 → (xs : List Float) → length xs ≡ 4460 → length (take (4 * rows) xs) ≡ 4 * state_count σ s k
+  front_rows byte xs e = front byte xs e ∙ ap (λ (n : ℕ). 4 * n) is
 
   module _ (dst : List ℕ) where
-    pub fill-wrong : (length dst ≡ 4 * (4 * rows) → ⊥) → fill_number σ k dst s ≡ 4
-    fill-wrong n = fill_refuses σ k dst s ∙ rw (ne_eqb (length dst) (16 * state_count σ s k) (λ e. n (e ∙ sym four_rows)))
+    pub fill_wrong : (length dst ≡ 4 * (4 * rows) → ⊥) → fill_number σ k dst s ≡ 4
+    fill_wrong n = fill_refuses σ k dst s ∙ rw (ne_eqb (length dst) (16 * state_count σ s k) (λ e. n (e ∙ sym four_rows)))
 
-    pub fill-right : length dst ≡ 4 * (4 * rows) → fill_number σ k dst s ≡ mask_number σ k s
+    pub fill_right : length dst ≡ 4 * (4 * rows) → fill_number σ k dst s ≡ mask_number σ k s
     unfolding fill_number
-    fill-right e = rw (eq-eqb (length dst) (16 * state_count σ s k) (e ∙ four_rows))
+    fill_right e = rw (eq-eqb (length dst) (16 * state_count σ s k) (e ∙ four_rows))
 
     -- the state is that of the image
     pub fill_done : (image : List ℕ) → s ≡ state_of image → refused image ≡ false → length dst ≡ 4 * (4 * rows)
         → answered (mask_number σ k s) (fill_bytes σ k s) dst ≡ ff_fill_section σ image k dst
     unfolding reading call_code
-    fill_done image read r e = rw (r, ← read, fill-right e, next_zero (mask_number σ k s))
+    fill_done image read r e = rw (r, ← read, fill_right e, next_zero (mask_number σ k s))

@@ -47,17 +47,17 @@ module _ (s t : FfState) (k : FfVsKey) where
   same_rows Fog e = rw (e.0, e.1, e.2)
   same_rows Ambient e = ap ambient_rows e
 
-  same-accepted : (σ : Section) → same_inputs σ s t → mask_accepted σ k (inputs_of s) ≡ mask_accepted σ k (inputs_of t)
+  same_accepted : (σ : Section) → same_inputs σ s t → mask_accepted σ k (inputs_of s) ≡ mask_accepted σ k (inputs_of t)
   unfolding mask_accepted
-  same-accepted Wv e = refl
-  same-accepted Proj e = refl
-  same-accepted Material e = refl
-  same-accepted Lights e =
+  same_accepted Wv e = refl
+  same_accepted Proj e = refl
+  same_accepted Material e = refl
+  same_accepted Lights e =
       ap (λ (ls : List D3DLIGHT9). eqb k.light_active_mask 0 || eqb k.light_active_mask (masks_of (take (light_limit k) ls)).active) e.1
-  same-accepted Palette e = refl
-  same-accepted Tt e = refl
-  same-accepted Fog e = refl
-  same-accepted Ambient e = refl
+  same_accepted Palette e = refl
+  same_accepted Tt e = refl
+  same_accepted Fog e = refl
+  same_accepted Ambient e = refl
 
   -- the state's part in a count is the texture mask
   pub same_count : (σ : Section) → same_inputs σ s t → state_count σ s k ≡ state_count σ t k
@@ -70,58 +70,58 @@ module _ (s t : FfState) (k : FfVsKey) where
   same_count Fog e = refl
   same_count Ambient e = refl
 
-  pub same-packing : (σ : Section) → same_inputs σ s t → (dst : List Float) → pack_section σ s k dst ≡ pack_section σ t k dst
+  pub same_packing : (σ : Section) → same_inputs σ s t → (dst : List Float) → pack_section σ s k dst ≡ pack_section σ t k dst
   unfolding pack_section pack_inputs
-  same-packing σ e dst =
-      ap₂ (outcome_of dst (state_count σ s k)) (same-accepted σ e) (same_rows σ e)
+  same_packing σ e dst =
+      ap₂ (outcome_of dst (state_count σ s k)) (same_accepted σ e) (same_rows σ e)
       ∙ ap (λ (n : ℕ). outcome_of dst n (mask_accepted σ k (inputs_of t)) (packed_rows σ k (inputs_of t))) (same_count σ e)
 
 -- ---- the key
 
 module _ {k l : FfVsKey} (e : SameShape k l) where
-  same-matrices : palette_matrices k ≡ palette_matrices l
+  same_matrices : palette_matrices k ≡ palette_matrices l
   unfolding palette_matrices
-  same-matrices =
+  same_matrices =
       ap₂ (λ (n : ℕ) (i : Bool). cond (eqb n 0) 0 (cond i 40 n)) e.vertex_blend_count e.vertex_blend_indexed
 
-  pub shape-count : (σ : Section) (t : ℕ) → section_rows σ k t ≡ section_rows σ l t
+  pub shape_count : (σ : Section) (t : ℕ) → section_rows σ k t ≡ section_rows σ l t
   unfolding material_count light_count palette_count
-  shape-count Wv t = refl
-  shape-count Proj t = refl
-  shape-count Material t = ap₂ (λ (a b : Bool). cond a (cond b 5 4) 1) e.lighting_enabled e.specular_enable
-  shape-count Lights t = ap (λ (m : ℕ). places m * 6) e.light-active-mask
-  shape-count Palette t = ap (λ (n : ℕ). n * 4) same-matrices
-  shape-count Tt t = refl
-  shape-count Fog t = refl
-  shape-count Ambient t = refl
+  shape_count Wv t = refl
+  shape_count Proj t = refl
+  shape_count Material t = ap₂ (λ (a b : Bool). cond a (cond b 5 4) 1) e.lighting_enabled e.specular_enable
+  shape_count Lights t = ap (λ (m : ℕ). places m * 6) e.light-active-mask
+  shape_count Palette t = ap (λ (n : ℕ). n * 4) same_matrices
+  shape_count Tt t = refl
+  shape_count Fog t = refl
+  shape_count Ambient t = refl
 
   module _ (i : Inputs) where
-    pub shape-rows : (σ : Section) → packed_rows σ k i ≡ packed_rows σ l i
+    pub shape_rows : (σ : Section) → packed_rows σ k i ≡ packed_rows σ l i
     unfolding packed_rows
-    shape-rows Wv = refl
-    shape-rows Proj = refl
-    shape-rows Material = ap₂ (λ (a b : Bool). material_rows a b i.material) e.lighting_enabled e.specular_enable
-    shape-rows Lights =
+    shape_rows Wv = refl
+    shape_rows Proj = refl
+    shape_rows Material = ap₂ (λ (a b : Bool). material_rows a b i.material) e.lighting_enabled e.specular_enable
+    shape_rows Lights =
         ap₂ (λ (m n : ℕ). cond (eqb m 0) [] (lights_rows i.view (take n i.lights))) e.light-active-mask (shape_limit e)
-    shape-rows Palette = ap (λ (n : ℕ). palette_rows i.view (take n i.palette)) same-matrices
-    shape-rows Tt = refl
-    shape-rows Fog = ap (λ (m : ℕ). fog_rows m i.render_states.fog_start i.render_states.fog_end i.render_states.fog_density) e.fog_mode
-    shape-rows Ambient = refl
+    shape_rows Palette = ap (λ (n : ℕ). palette_rows i.view (take n i.palette)) same_matrices
+    shape_rows Tt = refl
+    shape_rows Fog = ap (λ (m : ℕ). fog_rows m i.render_states.fog_start i.render_states.fog_end i.render_states.fog_density) e.fog_mode
+    shape_rows Ambient = refl
 
-    pub shape-accepted : (σ : Section) → mask_accepted σ k i ≡ mask_accepted σ l i
+    pub shape_accepted : (σ : Section) → mask_accepted σ k i ≡ mask_accepted σ l i
     unfolding mask_accepted
-    shape-accepted Wv = refl
-    shape-accepted Proj = refl
-    shape-accepted Material = refl
-    shape-accepted Lights = ap₂ (λ (m n : ℕ). eqb m 0 || eqb m (masks_of (take n i.lights)).active) e.light-active-mask (shape_limit e)
-    shape-accepted Palette = refl
-    shape-accepted Tt = refl
-    shape-accepted Fog = refl
-    shape-accepted Ambient = refl
+    shape_accepted Wv = refl
+    shape_accepted Proj = refl
+    shape_accepted Material = refl
+    shape_accepted Lights = ap₂ (λ (m n : ℕ). eqb m 0 || eqb m (masks_of (take n i.lights)).active) e.light-active-mask (shape_limit e)
+    shape_accepted Palette = refl
+    shape_accepted Tt = refl
+    shape_accepted Fog = refl
+    shape_accepted Ambient = refl
 
     -- keys that are equal in the shape fields pack alike, whatever the inputs are
-    pub shape-packing : (σ : Section) (dst : List Float) → pack_inputs σ k i dst ≡ pack_inputs σ l i dst
+    pub shape_packing : (σ : Section) (dst : List Float) → pack_inputs σ k i dst ≡ pack_inputs σ l i dst
     unfolding pack_inputs
-    shape-packing σ dst =
-        ap₂ (outcome_of dst (input_rows σ k i)) (shape-accepted σ) (shape-rows σ)
-        ∙ ap (λ (n : ℕ). outcome_of dst n (mask_accepted σ l i) (packed_rows σ l i)) (shape-count σ i.texture_mask)
+    shape_packing σ dst =
+        ap₂ (outcome_of dst (input_rows σ k i)) (shape_accepted σ) (shape_rows σ)
+        ∙ ap (λ (n : ℕ). outcome_of dst n (mask_accepted σ l i) (packed_rows σ l i)) (shape_count σ i.texture_mask)

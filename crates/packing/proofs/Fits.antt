@@ -83,21 +83,21 @@ entries_fit (e ∷ es) p =
     branch (Each lightFits) (is_active e) (e.light ∷ active_overflow es) (active_overflow es) (λ on. (p.0, rest)) (λ off. rest)
 
 module _ {s : FfState} (v : Valid s) where
-  active-fit : Each lightFits (active_lights s)
+  active_fit : Each lightFits (active_lights s)
   unfolding active_lights
-  active-fit =
+  active_fit =
       let slots = each_at lightFits default_light s.lights (λ i h. v.floats.lights i (rw v.lights_length at h)) in
       let entries = each_at (λ e. lightFits e.light) zero_entry s.overflow_lights (λ i h. v.floats.overflow i (rw v.overflow_length at h)) in
       each_append lightFits (slots_from 0 (light_active_mask s) s.lights) (active_overflow (used s))
       (slots_fit (light_active_mask s) 0 s.lights slots)
       (entries_fit (used s) (each_take (λ e. lightFits e.light) (used_count s.overflow_count) s.overflow_lights entries))
 
-  pub inputs-fit : InputsFit (inputs_of s)
-  inputs-fit =
+  pub inputs_fit : InputsFit (inputs_of s)
+  inputs_fit =
       record {
         projection = v.floats.projection;
         material = v.floats.material;
-        lights = active-fit;
+        lights = active_fit;
         textures = each_at matrixFits no_matrix s.texture_transforms (λ i h. v.floats.texture i (rw v.texture_length at h));
         states = v.states;
       }

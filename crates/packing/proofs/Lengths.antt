@@ -26,7 +26,7 @@ use Rattle.light_rows.specs.Light.{light_rows, six_rows, lights_rows}
 use Rattle.sections.specs.Counts.{places, material_count, light_count, palette_matrices, palette_count, texture_count}
 use Rattle.sections.specs.Key.{light_limit}
 use Rattle.sections.specs.declared.key.FfVsKey.{FfVsKey}
-use Rattle.sections.proofs.Bounds.{places_most, matrices-most}
+use Rattle.sections.proofs.Bounds.{places_most, matrices_most}
 use Rattle.sections.proofs.Shape.{limit_small}
 use Rattle.packing.specs.Inputs.{Inputs, packed_lights, packed_rows, mask_accepted, inputs_of}
 use Rattle.packing.specs.Pack.{state_rows, input_rows, state_count}
@@ -78,7 +78,7 @@ module _ (k : FfVsKey) (i : Inputs) (z : SizedInputs k i) where
   rows-length Lights m = lights-rows (eqb k.light_active_mask 0) refl m
   rows-length Palette m =
       length_rows_of (world_view_rows i.view) 4 (λ w. refl) (take (palette_matrices k) i.palette)
-      ∙ ap (λ (n : ℕ). 4 * n) (length-take-le (palette_matrices k) i.palette (omega (arith, matrices-most k z.count, z.palette)))
+      ∙ ap (λ (n : ℕ). 4 * n) (length-take-le (palette_matrices k) i.palette (omega (arith, matrices_most k z.count, z.palette)))
       ∙ mul_comm 4 (palette_matrices k)
   rows-length Tt m =
       length_rows_of projection_rows 4 (λ w. refl) (take (places i.texture_mask) i.textures)

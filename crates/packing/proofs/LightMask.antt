@@ -47,9 +47,9 @@ module _ (s : FfState) (k : FfVsKey) where
   abbrev pub packed : List D3DLIGHT9
   packed = take (light_limit k) (active_lights s)
 
-  pub none-accepted : k.light_active_mask ≡ 0 → mask_accepted Lights k (inputs_of s) ≡ true
+  pub none_accepted : k.light_active_mask ≡ 0 → mask_accepted Lights k (inputs_of s) ≡ true
   unfolding mask_accepted
-  none-accepted e = rw (eq-eqb k.light_active_mask 0 e)
+  none_accepted e = rw (eq-eqb k.light_active_mask 0 e)
 
   pub none-packed : (dst : List Float) → length dst ≡ 4 * light_count k → k.light_active_mask ≡ 0 → dst ≡ state_rows Lights s k
   unfolding packed_rows floats light_count
@@ -58,29 +58,29 @@ module _ (s : FfState) (k : FfVsKey) where
       (empty dst (omega (arith, long, ap places e ∙ places-none)))
 
   module _ (n : ℕ) (some : k.light_active_mask ≡ 0 → ⊥) (counted : n ≡ length packed) where
-    pub its-accepted : k.light_active_mask ≡ low_bits n → mask_accepted Lights k (inputs_of s) ≡ true
+    pub its_accepted : k.light_active_mask ≡ low_bits n → mask_accepted Lights k (inputs_of s) ≡ true
     unfolding mask_accepted masks_of
-    its-accepted e =
+    its_accepted e =
         rw (ne_eqb k.light_active_mask 0 some, eq-eqb k.light_active_mask (low_bits (length packed)) (e ∙ ap low_bits counted))
 
-    pub another-refused : (k.light_active_mask ≡ low_bits n → ⊥) → mask_accepted Lights k (inputs_of s) ≡ false
+    pub another_refused : (k.light_active_mask ≡ low_bits n → ⊥) → mask_accepted Lights k (inputs_of s) ≡ false
     unfolding mask_accepted masks_of
-    another-refused f =
+    another_refused f =
         rw (ne_eqb k.light_active_mask 0 some, ne_eqb k.light_active_mask (low_bits (length packed)) (λ e. f (e ∙ ap low_bits (sym counted))))
 
-  pub some-packed : (k.light_active_mask ≡ 0 → ⊥) → floats (lights_rows s.view packed) ≡ state_rows Lights s k
+  pub some_packed : (k.light_active_mask ≡ 0 → ⊥) → floats (lights_rows s.view packed) ≡ state_rows Lights s k
   unfolding packed_rows
-  some-packed some = rw (ne_eqb k.light_active_mask 0 some)
+  some_packed some = rw (ne_eqb k.light_active_mask 0 some)
 
   -- ---- the papers' words
 
   -- the compacted active mask; of the preview its low four bits: "its mask has at most four bits"
-  abbrev pub limitMask : ℕ
-  limitMask = cond k.preview (bit_and (compacted_light_masks s).active 0x0F) (compacted_light_masks s).active
+  abbrev pub limit_mask : ℕ
+  limit_mask = cond k.preview (bit_and (compacted_light_masks s).active 0x0F) (compacted_light_masks s).active
 
-  pub packed-mask : (masks_of (packed_lights k (inputs_of s))).active ≡ limitMask
+  pub packed_mask : (masks_of (packed_lights k (inputs_of s))).active ≡ limit_mask
   unfolding limit_of compacted_light_masks masks_of
-  packed-mask = by k.preview
+  packed_mask = by k.preview
     where
       by : (b : Bool)
           → low_bits (length (take (limit_of b) (active_lights s))) ≡ cond b (bit_and (low_bits (length (take 8 (active_lights s)))) 0x0F) (low_bits (length (take 8 (active_lights s))))
@@ -88,26 +88,26 @@ module _ (s : FfState) (k : FfVsKey) where
       by false = refl
 
   -- "The preview list is the first four of the full one", which has eight
-  pub preview-list : k.preview ≡ true → packed_lights k (inputs_of s) ≡ take 4 (take 8 (active_lights s))
+  pub preview_list : k.preview ≡ true → packed_lights k (inputs_of s) ≡ take 4 (take 8 (active_lights s))
   unfolding limit_of
-  preview-list e = rw e (sym (take-take 4 8 (active_lights s) (omega arith)))
+  preview_list e = rw e (sym (take-take 4 8 (active_lights s) (omega arith)))
 
-  pub full-list : k.preview ≡ false → packed_lights k (inputs_of s) ≡ take 8 (active_lights s)
+  pub full_list : k.preview ≡ false → packed_lights k (inputs_of s) ≡ take 8 (active_lights s)
   unfolding limit_of
-  full-list e = rw e
+  full_list e = rw e
 
   -- "the light mask is not 0 and is not the compacted active mask", under the key's limit
   abbrev Another : Type 0
-  Another = (k.light_active_mask ≡ 0 → ⊥) × (k.light_active_mask ≡ limitMask → ⊥)
+  Another = (k.light_active_mask ≡ 0 → ⊥) × (k.light_active_mask ≡ limit_mask → ⊥)
 
-  pub refused-another : mask_accepted Lights k (inputs_of s) ≡ false → Another
+  pub refused_another : mask_accepted Lights k (inputs_of s) ≡ false → Another
   unfolding mask_accepted
-  refused-another e =
+  refused_another e =
       let own = (masks_of packed).active in
       let n = neither (eqb k.light_active_mask 0) (eqb k.light_active_mask own) e in
-      (eqb-false k.light_active_mask 0 n.0, λ q. eqb-false k.light_active_mask own n.1 (q ∙ sym packed-mask))
+      (eqb-false k.light_active_mask 0 n.0, λ q. eqb-false k.light_active_mask own n.1 (q ∙ sym packed_mask))
 
-  pub another-is-refused : Another → mask_accepted Lights k (inputs_of s) ≡ false
+  pub another_is_refused : Another → mask_accepted Lights k (inputs_of s) ≡ false
   unfolding mask_accepted
-  another-is-refused n =
-      rw (ne_eqb k.light_active_mask 0 n.0, ne_eqb k.light_active_mask (masks_of packed).active (λ e. n.1 (e ∙ packed-mask)))
+  another_is_refused n =
+      rw (ne_eqb k.light_active_mask 0 n.0, ne_eqb k.light_active_mask (masks_of packed).active (λ e. n.1 (e ∙ packed_mask)))

@@ -15,7 +15,7 @@ use Rattle.ff_state.specs.Valid.{Valid}
 use Rattle.sections.specs.declared.sections.Section.{Section}
 use Rattle.ff_state.specs.declared.state.FfState.{FfState}
 use Rattle.agreement.specs.Agrees.{Agrees}
-use Rattle.agreement.proofs.Active.{active-agrees}
+use Rattle.agreement.proofs.Active.{active_agrees}
 use Rattle.rows.specs.Rows.{floats}
 use Rattle.sections.specs.declared.key.FfVsKey.{FfVsKey}
 use Rattle.packing.proofs.Lengths.{rows-length}
@@ -45,18 +45,18 @@ all_at m ms from n long e =
     e i below ∙ sym (matrices_at m from n i below))
 
 module _ {s : FfState} {a : AbstractState} (v : Valid s) (g : Agrees s a) where
-  palette-agrees : s.world_palette ≡ matrices_from a.matrix 256 256
-  palette-agrees = all_at a.matrix s.world_palette 256 256 v.palette_length g.matrices.palette
+  palette_agrees : s.world_palette ≡ matrices_from a.matrix 256 256
+  palette_agrees = all_at a.matrix s.world_palette 256 256 v.palette_length g.matrices.palette
 
-  textures-agree : s.texture_transforms ≡ matrices_from a.matrix 16 8
-  textures-agree = all_at a.matrix s.texture_transforms 16 8 v.texture_length g.matrices.texture
+  textures_agree : s.texture_transforms ≡ matrices_from a.matrix 16 8
+  textures_agree = all_at a.matrix s.texture_transforms 16 8 v.texture_length g.matrices.texture
 
-  pub inputs-agree : inputs_of s ≡ abstract_inputs a
+  pub inputs_agree : inputs_of s ≡ abstract_inputs a
   unfolding abstract_inputs
-  inputs-agree =
-      let palette = palette-agrees in
-      let textures = textures-agree in
-      let lights = active-agrees v g in
+  inputs_agree =
+      let palette = palette_agrees in
+      let textures = textures_agree in
+      let lights = active_agrees v g in
       λ i.
       record {
         view = g.matrices.view i;
@@ -71,11 +71,11 @@ module _ {s : FfState} {a : AbstractState} (v : Valid s) (g : Agrees s a) where
 
   pub rows_agree : (σ : Section) (k : FfVsKey) → state_rows σ s k ≡ floats (abstract_rows σ a k)
   unfolding abstract_rows
-  rows_agree σ k = ap (λ (i : Inputs). floats (packed_rows σ k i)) inputs-agree
+  rows_agree σ k = ap (λ (i : Inputs). floats (packed_rows σ k i)) inputs_agree
 
-  pub packing-agrees : (σ : Section) (k : FfVsKey) (dst : List Float) → pack_section σ s k dst ≡ abstract_pack σ a k dst
+  pub packing_agrees : (σ : Section) (k : FfVsKey) (dst : List Float) → pack_section σ s k dst ≡ abstract_pack σ a k dst
   unfolding pack_section abstract_pack
-  packing-agrees σ k dst = ap (λ (i : Inputs). pack_inputs σ k i dst) inputs-agree
+  packing_agrees σ k dst = ap (λ (i : Inputs). pack_inputs σ k i dst) inputs_agree
 
 -- the abstract state has 256 world matrices and 8 of textures
 pub abstract_length : (a : AbstractState) (k : FfVsKey) → k.vertex_blend_count < 256 → (σ : Section) → mask_accepted σ k (abstract_inputs a) ≡ true

@@ -25,7 +25,7 @@ use Rattle.sections.proofs.Tiles.{apart, same_first}
 use Rattle.packing.specs.Pack.{state_rows, state_count}
 use Rattle.refresh.specs.Written.{first_float, written_section, written}
 use Rattle.refresh.proofs.Packed.{Ready, rows-length, fits}
-use Rattle.refresh.proofs.Parts.{Holds, put_holds, put-outside}
+use Rattle.refresh.proofs.Parts.{Holds, put_holds, put_outside}
 use Rattle.packing.specs.Inputs.{inputs_of}
 
 -- one of a list
@@ -53,29 +53,29 @@ three {A} a b f g h = go (ltb a b) (ltb b a) refl refl
 module _ {s : FfState} {k : FfVsKey} (r : Ready s k) (bits : ℕ) where
   -- ---- one section
 
-  section-length : (σ : Section) (m : List Float) → length m ≡ 4460 → length (written_section σ bits s k m) ≡ 4460
+  section_length : (σ : Section) (m : List Float) → length m ≡ 4460 → length (written_section σ bits s k m) ≡ 4460
   unfolding written_section
-  section-length σ m long =
+  section_length σ m long =
       branch (λ (x : List Float). length x ≡ 4460) (has_section bits σ) (put (first_float σ) (state_rows σ s k) m) m
       (λ on. length-put (first_float σ) (state_rows σ s k) m (omega (arith, long, fits r σ)) ∙ long)
       (λ off. long)
 
-  section-outside : (σ : Section) (m : List Float) → length m ≡ 4460 → (i : ℕ) → (has_section bits σ ≡ true → Outside (first_float σ) (length (state_rows σ s k)) i)
+  section_outside : (σ : Section) (m : List Float) → length m ≡ 4460 → (i : ℕ) → (has_section bits σ ≡ true → Outside (first_float σ) (length (state_rows σ s k)) i)
       → get_or (written_section σ bits s k m) i nan ≡ get_or m i nan
   unfolding written_section
-  section-outside σ m long i out =
+  section_outside σ m long i out =
       branch (λ (x : List Float). get_or x i nan ≡ get_or m i nan) (has_section bits σ) (put (first_float σ) (state_rows σ s k) m) m
-      (λ on. put-outside (first_float σ) (state_rows σ s k) m (omega (arith, long, fits r σ)) i (out on))
+      (λ on. put_outside (first_float σ) (state_rows σ s k) m (omega (arith, long, fits r σ)) i (out on))
       (λ off. refl)
 
-  section-holds : (σ : Section) (m : List Float) → length m ≡ 4460 → has_section bits σ ≡ true → Holds (written_section σ bits s k m) (first_float σ) (state_rows σ s k)
+  section_holds : (σ : Section) (m : List Float) → length m ≡ 4460 → has_section bits σ ≡ true → Holds (written_section σ bits s k m) (first_float σ) (state_rows σ s k)
   unfolding written_section
-  section-holds σ m long on = rw on (put_holds (first_float σ) (state_rows σ s k) m (omega (arith, long, fits r σ)))
+  section_holds σ m long on = rw on (put_holds (first_float σ) (state_rows σ s k) m (omega (arith, long, fits r σ)))
 
   -- what lies in another section's place stays
-  other-holds : (σ τ : Section) → (has_section bits τ ≡ true → σ ≡ τ → ⊥) → (m p : List Float) → length m ≡ 4460 → length p ≡ 4 * state_count σ s k
+  other_holds : (σ τ : Section) → (has_section bits τ ≡ true → σ ≡ τ → ⊥) → (m p : List Float) → length m ≡ 4460 → length p ≡ 4 * state_count σ s k
       → Holds m (first_float σ) p → Holds (written_section τ bits s k m) (first_float σ) p
-  other-holds σ τ another m p long full h j small = section-outside τ m long (first_float σ + j) out ∙ h j small
+  other_holds σ τ another m p long full h j small = section_outside τ m long (first_float σ + j) out ∙ h j small
     where
       out : has_section bits τ ≡ true → Outside (first_float τ) (length (state_rows τ s k)) (first_float σ + j)
       out on =
@@ -89,42 +89,42 @@ module _ {s : FfState} {k : FfVsKey} (r : Ready s k) (bits : ℕ) where
   pub written-length : (σs : List Section) (m : List Float) → length m ≡ 4460 → length (written σs bits s k m) ≡ 4460
   unfolding written
   written-length [] m long = long
-  written-length (σ ∷ σs) m long = written-length σs (written_section σ bits s k m) (section-length σ m long)
+  written-length (σ ∷ σs) m long = written-length σs (written_section σ bits s k m) (section_length σ m long)
 
-  pub written-outside : (σs : List Section) (m : List Float) → length m ≡ 4460 → (i : ℕ) → ((σ : Section) → has_section bits σ ≡ true → Outside (first_float σ) (length (state_rows σ s k)) i)
+  pub written_outside : (σs : List Section) (m : List Float) → length m ≡ 4460 → (i : ℕ) → ((σ : Section) → has_section bits σ ≡ true → Outside (first_float σ) (length (state_rows σ s k)) i)
       → get_or (written σs bits s k m) i nan ≡ get_or m i nan
   unfolding written
-  written-outside [] m long i out = refl
-  written-outside (σ ∷ σs) m long i out = written-outside σs (written_section σ bits s k m) (section-length σ m long) i out ∙ section-outside σ m long i (out σ)
+  written_outside [] m long i out = refl
+  written_outside (σ ∷ σs) m long i out = written_outside σs (written_section σ bits s k m) (section_length σ m long) i out ∙ section_outside σ m long i (out σ)
 
   -- a section that the bits do not name holds what it held
-  pub written-off : (σs : List Section) (σ : Section) → has_section bits σ ≡ false → (m p : List Float) → length m ≡ 4460 → length p ≡ 4 * state_count σ s k
+  pub written_off : (σs : List Section) (σ : Section) → has_section bits σ ≡ false → (m p : List Float) → length m ≡ 4460 → length p ≡ 4 * state_count σ s k
       → Holds m (first_float σ) p → Holds (written σs bits s k m) (first_float σ) p
   unfolding written
-  written-off [] σ off m p long full h = h
-  written-off (τ ∷ τs) σ off m p long full h =
-      written-off τs σ off (written_section τ bits s k m) p (section-length τ m long) full
-      (other-holds σ τ (λ on e. never (sym on ∙ ap (has_section bits) (sym e) ∙ off)) m p long full h)
+  written_off [] σ off m p long full h = h
+  written_off (τ ∷ τs) σ off m p long full h =
+      written_off τs σ off (written_section τ bits s k m) p (section_length τ m long) full
+      (other_holds σ τ (λ on e. never (sym on ∙ ap (has_section bits) (sym e) ∙ off)) m p long full h)
 
   -- one that they name is not written over by those behind it, nor by itself
   stays : (σs : List Section) (σ : Section) → has_section bits σ ≡ true → (m : List Float) → length m ≡ 4460
       → Holds m (first_float σ) (state_rows σ s k) → Holds (written σs bits s k m) (first_float σ) (state_rows σ s k)
   unfolding written
   stays [] σ on m long h = h
-  stays (τ ∷ τs) σ on m long h = stays τs σ on (written_section τ bits s k m) (section-length τ m long) again
+  stays (τ ∷ τs) σ on m long h = stays τs σ on (written_section τ bits s k m) (section_length τ m long) again
     where
       again : Holds (written_section τ bits s k m) (first_float σ) (state_rows σ s k)
       again =
           three (first_row σ) (first_row τ)
-          (λ before. other-holds σ τ (λ q e. absurd (omega (arith, before, ap (λ (x : Section). first_row x) e))) m (state_rows σ s k) long (rows-length r σ) h)
-          (λ behind. other-holds σ τ (λ q e. absurd (omega (arith, behind, ap (λ (x : Section). first_row x) e))) m (state_rows σ s k) long (rows-length r σ) h)
-          (λ same. subst (λ (x : Section). Holds (written_section x bits s k m) (first_float σ) (state_rows σ s k)) (same_first σ τ same) (section-holds σ m long on))
+          (λ before. other_holds σ τ (λ q e. absurd (omega (arith, before, ap (λ (x : Section). first_row x) e))) m (state_rows σ s k) long (rows-length r σ) h)
+          (λ behind. other_holds σ τ (λ q e. absurd (omega (arith, behind, ap (λ (x : Section). first_row x) e))) m (state_rows σ s k) long (rows-length r σ) h)
+          (λ same. subst (λ (x : Section). Holds (written_section x bits s k m) (first_float σ) (state_rows σ s k)) (same_first σ τ same) (section_holds σ m long on))
 
   pub written_on : (σs : List Section) (σ : Section) → In σ σs → has_section bits σ ≡ true → (m : List Float) → length m ≡ 4460
       → Holds (written σs bits s k m) (first_float σ) (state_rows σ s k)
   unfolding written
   written_on [] σ is on m long = absurd is
   written_on (τ ∷ τs) σ (inl e) on m long =
-      stays τs σ on (written_section τ bits s k m) (section-length τ m long)
-      (subst (λ (x : Section). Holds (written_section x bits s k m) (first_float σ) (state_rows σ s k)) e (section-holds σ m long on))
-  written_on (τ ∷ τs) σ (inr is) on m long = written_on τs σ is on (written_section τ bits s k m) (section-length τ m long)
+      stays τs σ on (written_section τ bits s k m) (section_length τ m long)
+      (subst (λ (x : Section). Holds (written_section x bits s k m) (first_float σ) (state_rows σ s k)) e (section_holds σ m long on))
+  written_on (τ ∷ τs) σ (inr is) on m long = written_on τs σ is on (written_section τ bits s k m) (section_length τ m long)

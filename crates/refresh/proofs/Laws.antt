@@ -25,7 +25,7 @@ use Rattle.refresh.proofs.Answers.{accepted_fits}
 use Rattle.refresh.proofs.Packed.{Ready}
 use Rattle.refresh.proofs.Parts.{Holds}
 use Rattle.refresh.proofs.Writes.{refused}
-use Rattle.refresh.proofs.Holding.{every_in, written-length, written-outside, written-off, written_on}
+use Rattle.refresh.proofs.Holding.{every_in, written-length, written_outside, written_off, written_on}
 
 -- "Bits stay untaken", and "bits beside one are 0": state and mirror are as found
 module _ (s : FfState) (k : FfVsKey) (m : List Float) (f : refresh_answer s k (length m) ≡ Accepted → ⊥) where
@@ -33,14 +33,14 @@ module _ (s : FfState) (k : FfVsKey) (m : List Float) (f : refresh_answer s k (l
   unfolding refresh_mirror
   refused_same = sym (refused s k (refresh_answer s k (length m)) f m)
 
-  pub refused-bits : (refresh_mirror s k m).result.bits ≡ 0
-  refused-bits = ap (λ (o : RefreshOutcome). o.result.bits) refused_same
+  pub refused_bits : (refresh_mirror s k m).result.bits ≡ 0
+  refused_bits = ap (λ (o : RefreshOutcome). o.result.bits) refused_same
 
-  pub refused-state : (refresh_mirror s k m).result.state ≡ s
-  refused-state = ap (λ (o : RefreshOutcome). o.result.state) refused_same
+  pub refused_state : (refresh_mirror s k m).result.state ≡ s
+  refused_state = ap (λ (o : RefreshOutcome). o.result.state) refused_same
 
-  pub refused-mirror : (refresh_mirror s k m).floats ≡ m
-  refused-mirror = ap (λ (o : RefreshOutcome). o.floats) refused_same
+  pub refused_mirror : (refresh_mirror s k m).floats ≡ m
+  refused_mirror = ap (λ (o : RefreshOutcome). o.floats) refused_same
 
 -- of a count that is a u8, 256 world matrices and 8 of textures
 module _ (s : FfState) (k : FfVsKey) (m : List Float) (byte : k.vertex_blend_count < 256) (palette : length s.world_palette ≡ 256)
@@ -56,38 +56,38 @@ module _ (s : FfState) (k : FfVsKey) (m : List Float) (byte : k.vertex_blend_cou
   unfolding refresh_mirror refresh_by take_ff_vs_dirty
   accepted_is = ap (λ (a : RefreshAnswer). refresh_by a s k m) is
 
-  mirror-is : (refresh_mirror s k m).floats ≡ written sections (dirty_word s) s k m
-  mirror-is = ap (λ (o : RefreshOutcome). o.floats) accepted_is
+  mirror_is : (refresh_mirror s k m).floats ≡ written sections (dirty_word s) s k m
+  mirror_is = ap (λ (o : RefreshOutcome). o.floats) accepted_is
 
   state_is : (refresh_mirror s k m).result.state ≡ (take_ff_vs_dirty s).state
   state_is = ap (λ (o : RefreshOutcome). o.result.state) accepted_is
 
   -- "The answer is the bits taken."
-  pub bits-taken : (refresh_mirror s k m).result.bits ≡ dirty_word s
+  pub bits_taken : (refresh_mirror s k m).result.bits ≡ dirty_word s
   unfolding take_ff_vs_dirty
-  bits-taken = ap (λ (o : RefreshOutcome). o.result.bits) accepted_is
+  bits_taken = ap (λ (o : RefreshOutcome). o.result.bits) accepted_is
 
-  pub dirty-holds : (σ : Section) → has_section (dirty_word s) σ ≡ true → Holds (refresh_mirror s k m).floats (first_float σ) (state_rows σ s k)
-  dirty-holds σ on =
-      subst (λ (x : List Float). Holds x (first_float σ) (state_rows σ s k)) (sym mirror-is) (written_on ready (dirty_word s) sections σ (every_in σ) on m long)
+  pub dirty_holds : (σ : Section) → has_section (dirty_word s) σ ≡ true → Holds (refresh_mirror s k m).floats (first_float σ) (state_rows σ s k)
+  dirty_holds σ on =
+      subst (λ (x : List Float). Holds x (first_float σ) (state_rows σ s k)) (sym mirror_is) (written_on ready (dirty_word s) sections σ (every_in σ) on m long)
 
-  pub clean-holds : (σ : Section) → has_section (dirty_word s) σ ≡ false → (p : List Float) → length p ≡ 4 * state_count σ s k
+  pub clean_holds : (σ : Section) → has_section (dirty_word s) σ ≡ false → (p : List Float) → length p ≡ 4 * state_count σ s k
       → Holds m (first_float σ) p → Holds (refresh_mirror s k m).floats (first_float σ) p
-  clean-holds σ off p full h =
-      subst (λ (x : List Float). Holds x (first_float σ) p) (sym mirror-is) (written-off ready (dirty_word s) sections σ off m p long full h)
+  clean_holds σ off p full h =
+      subst (λ (x : List Float). Holds x (first_float σ) p) (sym mirror_is) (written_off ready (dirty_word s) sections σ off m p long full h)
 
   -- "Other rows keep their contents."
-  pub others-stay : (i : ℕ) → ((σ : Section) → has_section (dirty_word s) σ ≡ true → Outside (first_float σ) (length (state_rows σ s k)) i)
+  pub others_stay : (i : ℕ) → ((σ : Section) → has_section (dirty_word s) σ ≡ true → Outside (first_float σ) (length (state_rows σ s k)) i)
       → get_or (refresh_mirror s k m).floats i nan ≡ get_or m i nan
-  others-stay i out =
-      ap (λ (x : List Float). get_or x i nan) mirror-is ∙ written-outside ready (dirty_word s) sections m long i out
+  others_stay i out =
+      ap (λ (x : List Float). get_or x i nan) mirror_is ∙ written_outside ready (dirty_word s) sections m long i out
 
-  pub length-stays : length (refresh_mirror s k m).floats ≡ 4460
-  length-stays = ap (λ (x : List Float). length x) mirror-is ∙ written-length ready (dirty_word s) sections m long
+  pub length_stays : length (refresh_mirror s k m).floats ≡ 4460
+  length_stays = ap (λ (x : List Float). length x) mirror_is ∙ written-length ready (dirty_word s) sections m long
 
-  pub none-dirty : dirty_word (refresh_mirror s k m).result.state ≡ 0
+  pub none_dirty : dirty_word (refresh_mirror s k m).result.state ≡ 0
   unfolding take_ff_vs_dirty
-  none-dirty = ap (λ (t : FfState). dirty_word t) state_is
+  none_dirty = ap (λ (t : FfState). dirty_word t) state_is
 
-  pub inputs-stay : (σ : Section) → same_inputs σ s (refresh_mirror s k m).result.state
-  inputs-stay σ = subst (λ (t : FfState). same_inputs σ s t) (sym state_is) (taken_same s σ)
+  pub inputs_stay : (σ : Section) → same_inputs σ s (refresh_mirror s k m).result.state
+  inputs_stay σ = subst (λ (t : FfState). same_inputs σ s t) (sym state_is) (taken_same s σ)

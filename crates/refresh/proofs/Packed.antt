@@ -12,7 +12,7 @@ use Rattle.sections.specs.declared.sections.Section.{Section}
 use Rattle.sections.specs.declared.sections.Section.TheVariants.{Wv, Proj, Material, Lights, Palette, Tt, Fog, Ambient}
 use Rattle.ff_state.specs.declared.state.FfState.{FfState}
 use Rattle.sections.specs.declared.key.FfVsKey.{FfVsKey}
-use Rattle.sections.proofs.Tiles.{fits-mirror}
+use Rattle.sections.proofs.Tiles.{fits_mirror}
 use Rattle.packing.specs.Inputs.{mask_accepted, inputs_of}
 use Rattle.packing.specs.Pack.{PackOutcome, pack_outcome, pack_inputs, pack_section, state_rows, state_count}
 use Rattle.packing.specs.declared.answer.PackAnswer.{PackAnswer}
@@ -45,7 +45,7 @@ module _ {s : FfState} {k : FfVsKey} (r : Ready s k) (σ : Section) where
   rows-length = floats-length k (inputs_of s) (record { count = r.count; palette = r.palette; textures = r.textures }) σ accepted
 
   pub fits : first_float σ + length (state_rows σ s k) ≤ 4460
-  fits = omega (arith, rows-length, fits-mirror k (inputs_of s).texture_mask r.count σ)
+  fits = omega (arith, rows-length, fits_mirror k (inputs_of s).texture_mask r.count σ)
 
   pub packs : (a : PackAnswer) (xs dst : List Float) → length dst ≡ 4 * state_count σ s k → pack_outcome a xs ≡ pack_section σ s k dst → xs ≡ state_rows σ s k
   unfolding pack_section pack_inputs

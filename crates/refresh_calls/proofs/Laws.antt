@@ -22,14 +22,14 @@ module _ (image : List ℕ) (k : FfVsKey) (mirror : List ℕ) (out : ℕ) where
 
   module _ (is : (ff_refresh image k mirror out).code ≡ 0) where
     -- "The answer is the bits taken."
-    pub bits-told : (ff_refresh image k mirror out).out.bits ≡ dirty_word (state_of image)
+    pub bits_told : (ff_refresh image k mirror out).out.bits ≡ dirty_word (state_of image)
     unfolding ff_refresh take_ff_vs_dirty
-    bits-told = ap (λ (h : HostRefreshed). h.bits) (new_by_code (call_code (ff_refresh_number k mirror) 0 image) _ _ is)
+    bits_told = ap (λ (h : HostRefreshed). h.bits) (new_by_code (call_code (ff_refresh_number k mirror) 0 image) _ _ is)
 
     -- "takes the dirty bits, clears them"
-    pub bits-cleared : (ff_refresh image k mirror out).out.image ≡ image_bytes (with_ff_vs_dirty (state_of image) 0)
+    pub bits_cleared : (ff_refresh image k mirror out).out.image ≡ image_bytes (with_ff_vs_dirty (state_of image) 0)
     unfolding ff_refresh take_ff_vs_dirty
-    bits-cleared = ap (λ (h : HostRefreshed). h.image) (new_by_code (call_code (ff_refresh_number k mirror) 0 image) _ _ is)
+    bits_cleared = ap (λ (h : HostRefreshed). h.image) (new_by_code (call_code (ff_refresh_number k mirror) 0 image) _ _ is)
 
     -- "and writes each named section"
     pub sections-written : (ff_refresh image k mirror out).out.mirror ≡ written_bytes sections (dirty_word (state_of image)) (state_of image) k mirror

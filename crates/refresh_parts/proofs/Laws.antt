@@ -21,26 +21,26 @@ module _ (s : FfState) (k : FfVsKey) (m : List Float) (out : ℕ) where
   abbrev by : RefreshAnswer → LentRefreshed
   by a = left (refresh_number (refresh_by a s k m).result.answer) (refresh_by a s k m).result.state (refresh_by a s k m).floats (told (refresh_by a s k m).result.answer (refresh_by a s k m).result.bits out)
 
-  refused-by : (a : RefreshAnswer) (n : ℕ) → (by a).number ≡ suc n → by a ≡ left (suc n) s m out
+  refused_by : (a : RefreshAnswer) (n : ℕ) → (by a).number ≡ suc n → by a ≡ left (suc n) s m out
   unfolding refresh_by refresh_number told
-  refused-by Accepted n h = absurd (omega (arith, h))
-  refused-by WrongLength n h = ap (λ (x : ℕ). left x s m out) h
-  refused-by HasRhw n h = ap (λ (x : ℕ). left x s m out) h
-  refused-by WrongMask n h = ap (λ (x : ℕ). left x s m out) h
+  refused_by Accepted n h = absurd (omega (arith, h))
+  refused_by WrongLength n h = ap (λ (x : ℕ). left x s m out) h
+  refused_by HasRhw n h = ap (λ (x : ℕ). left x s m out) h
+  refused_by WrongMask n h = ap (λ (x : ℕ). left x s m out) h
 
-  accepted-by : (a : RefreshAnswer) → (by a).number ≡ 0 → ((by a).bits ≡ dirty_word s) × (dirty_word (by a).state ≡ 0)
+  accepted_by : (a : RefreshAnswer) → (by a).number ≡ 0 → ((by a).bits ≡ dirty_word s) × (dirty_word (by a).state ≡ 0)
   unfolding refresh_by refresh_number told take_ff_vs_dirty
-  accepted-by Accepted h = (refl, refl)
-  accepted-by WrongLength h = absurd (omega (arith, h))
-  accepted-by HasRhw h = absurd (omega (arith, h))
-  accepted-by WrongMask h = absurd (omega (arith, h))
+  accepted_by Accepted h = (refl, refl)
+  accepted_by WrongLength h = absurd (omega (arith, h))
+  accepted_by HasRhw h = absurd (omega (arith, h))
+  accepted_by WrongMask h = absurd (omega (arith, h))
 
   -- "A refused call writes nothing"
   pub refused-left : (n : ℕ) → (lent_refresh s k m out).number ≡ suc n → lent_refresh s k m out ≡ left (suc n) s m out
   unfolding lent_refresh refresh_mirror
-  refused-left = refused-by (refresh_answer s k (length m))
+  refused-left = refused_by (refresh_answer s k (length m))
 
   -- "takes the dirty bits, clears them … The answer is the bits taken."
-  pub accepted-told : (lent_refresh s k m out).number ≡ 0 → ((lent_refresh s k m out).bits ≡ dirty_word s) × (dirty_word (lent_refresh s k m out).state ≡ 0)
+  pub accepted_told : (lent_refresh s k m out).number ≡ 0 → ((lent_refresh s k m out).bits ≡ dirty_word s) × (dirty_word (lent_refresh s k m out).state ≡ 0)
   unfolding lent_refresh refresh_mirror
-  accepted-told = accepted-by (refresh_answer s k (length m))
+  accepted_told = accepted_by (refresh_answer s k (length m))

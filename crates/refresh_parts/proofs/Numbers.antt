@@ -52,9 +52,9 @@ module _ (s : FfState) (k : FfVsKey) where
       go false h none also p = absurd (omega arith)
 
   -- they were not
-  pub not-looked : (n f : ℕ) → f ≡ first_number k n → eqb f 5 ≡ false → f ≡ refresh_number (refresh_answer s k n)
+  pub not_looked : (n f : ℕ) → f ≡ first_number k n → eqb f 5 ≡ false → f ≡ refresh_number (refresh_answer s k n)
   unfolding first_number mask_accepted active_lights light_active_mask
-  not-looked n f e other =
+  not_looked n f e other =
       e ∙ go (eqb n 4460) k.has_rhw (eqb k.light_active_mask 0) same (ap (λ (m : ℕ). eqb m 5) (sym e) ∙ other) ∙ sym (number_is s k n)
     where
       go : (l h none also : Bool) → eqb (first l h none) 5 ≡ false → first l h none ≡ whole l h none also

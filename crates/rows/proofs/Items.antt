@@ -23,8 +23,8 @@ pub record Standing {A : Type 0} (f : A → List Row) (w n : ℕ) (xs : List A) 
   pub is : dst ≡ sets m 0 (floats (rows_of f (take i xs)))
 
 module _ {A : Type 0} (f : A → List Row) (w : ℕ) (wide : (x : A) → length (f x) ≡ w) where
-  items-length : (xs : List A) → length (floats (rows_of f xs)) ≡ 4 * w * length xs
-  items-length xs = length-floats (rows_of f xs) ∙ ap (λ (n : ℕ). 4 * n) (length_rows_of f w wide xs) ∙ sym (mul_assoc 4 w (length xs))
+  items_length : (xs : List A) → length (floats (rows_of f xs)) ≡ 4 * w * length xs
+  items_length xs = length-floats (rows_of f xs) ∙ ap (λ (n : ℕ). 4 * n) (length_rows_of f w wide xs) ∙ sym (mul_assoc 4 w (length xs))
 
   module _ (n : ℕ) (xs : List A) (m : List Float) where
     pub begins : n ≤ length xs → length m ≡ 4 * w * n → Standing f w n xs m m 0 0
@@ -41,7 +41,7 @@ module _ {A : Type 0} (f : A → List Row) (w : ℕ) (wide : (x : A) → length 
         → dst' ≡ sets dst at (floats (f (get_or xs i d))) → Standing f w n xs m dst' (i + 1) (at + 4 * w)
     goes_on d i at dst dst' s h e =
         let front : List Float = floats (rows_of f (take i xs)) in
-        let stood : length front ≡ 4 * w * i = items-length (take i xs) ∙ ap (λ (k : ℕ). 4 * w * k) (length-take-le i xs (omega (arith, s.most, s.enough))) in
+        let stood : length front ≡ 4 * w * i = items_length (take i xs) ∙ ap (λ (k : ℕ). 4 * w * k) (length-take-le i xs (omega (arith, s.most, s.enough))) in
         let one : rows_of f (take (i + 1) xs) ≡ rows_of f (take i xs) ++ f (get_or xs i d) =
         rw (add-one, take-suc xs i d (omega (arith, s.enough)), rows_of_append f (take i xs) (get_or xs i d ∷ []), rows_of_one f (get_or xs i d)) in
         let more : floats (rows_of f (take (i + 1) xs)) ≡ front ++ floats (f (get_or xs i d)) = rw one (floats-append (rows_of f (take i xs)) (f (get_or xs i d))) in
@@ -60,5 +60,5 @@ module _ {A : Type 0} (f : A → List Row) (w : ℕ) (wide : (x : A) → length 
     ends i at dst h s =
         let e : i ≡ n = omega (arith, s.most) in
         let whole : length m ≡ length (floats (rows_of f (take n xs))) =
-        s.room ∙ sym (items-length (take n xs) ∙ ap (λ (k : ℕ). 4 * w * k) (length-take-le n xs s.enough)) in
+        s.room ∙ sym (items_length (take n xs) ∙ ap (λ (k : ℕ). 4 * w * k) (length-take-le n xs s.enough)) in
         rw (s.is, e) (sets_whole (floats (rows_of f (take n xs))) m whole)

@@ -30,20 +30,20 @@ unfolding texture_count
 texture_most mask = omega (arith, places_most mask)
 
 module _ (k : FfVsKey) where
-  pub material-most : material_count k ≤ 5
+  pub material_most : material_count k ≤ 5
   unfolding material_count
-  material-most =
+  material_most =
       branch (λ (n : ℕ). n ≤ 5) k.lighting_enabled (cond k.specular_enable 5 4) 1
       (λ lit. branch (λ (n : ℕ). n ≤ 5) k.specular_enable 5 4 (λ on. omega arith) (λ off. omega arith))
       (λ unlit. omega arith)
 
-  pub matrices-most : k.vertex_blend_count < 256 → palette_matrices k ≤ 255
+  pub matrices_most : k.vertex_blend_count < 256 → palette_matrices k ≤ 255
   unfolding palette_matrices
-  matrices-most h =
+  matrices_most h =
       branch (λ (n : ℕ). n ≤ 255) (eqb k.vertex_blend_count 0) 0 (cond k.vertex_blend_indexed 40 k.vertex_blend_count)
       (λ none. omega arith)
       (λ some. branch (λ (n : ℕ). n ≤ 255) k.vertex_blend_indexed 40 k.vertex_blend_count (λ on. omega arith) (λ off. omega arith))
 
-  pub palette-most : k.vertex_blend_count < 256 → palette_count k ≤ 1020
+  pub palette_most : k.vertex_blend_count < 256 → palette_count k ≤ 1020
   unfolding palette_count
-  palette-most h = omega (arith, matrices-most h)
+  palette_most h = omega (arith, matrices_most h)

@@ -38,13 +38,13 @@ each f all σ = subst (λ (τ : Section). T (f τ)) (listed σ).0 (at f sections
 
 -- two functions that are equal over the list are equal at each section
 module _ {A : Type 0} (f g : Section → A) where
-  equal-at : (σs : List Section) → map f σs ≡ map g σs → (i : ℕ) → i < length σs → f (get_or σs i Wv) ≡ g (get_or σs i Wv)
-  equal-at [] e i h = absurd (not-suc-le-zero h)
-  equal-at (σ ∷ σs) e zero h = ap (λ (xs : List A). get_or xs 0 (f σ)) e
-  equal-at (σ ∷ σs) e (suc i) h = equal-at σs (ap (λ (xs : List A). drop 1 xs) e) i (le_of_suc-le-suc h)
+  equal_at : (σs : List Section) → map f σs ≡ map g σs → (i : ℕ) → i < length σs → f (get_or σs i Wv) ≡ g (get_or σs i Wv)
+  equal_at [] e i h = absurd (not-suc-le-zero h)
+  equal_at (σ ∷ σs) e zero h = ap (λ (xs : List A). get_or xs 0 (f σ)) e
+  equal_at (σ ∷ σs) e (suc i) h = equal_at σs (ap (λ (xs : List A). drop 1 xs) e) i (le_of_suc-le-suc h)
 
-  pub same-sections : map f sections ≡ map g sections → (σ : Section) → f σ ≡ g σ
-  same-sections e σ = subst (λ (τ : Section). f τ ≡ g τ) (listed σ).0 (equal-at sections e (bit_place σ) (listed σ).1)
+  pub same_sections : map f sections ≡ map g sections → (σ : Section) → f σ ≡ g σ
+  same_sections e σ = subst (λ (τ : Section). f τ ≡ g τ) (listed σ).0 (equal_at sections e (bit_place σ) (listed σ).1)
 
 -- ---- by places
 
@@ -53,4 +53,4 @@ same_place σ τ e = sym (listed σ).0 ∙ ap (λ (i : ℕ). get_or sections i W
 
 -- a section's bit stands at its place
 pub bit-place : (σ : Section) → bit_of σ ≡ 2 ^ bit_place σ
-bit-place = same-sections bit_of (λ σ. 2 ^ bit_place σ) refl
+bit-place = same_sections bit_of (λ σ. 2 ^ bit_place σ) refl

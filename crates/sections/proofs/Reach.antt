@@ -85,9 +85,9 @@ module _ (k : FfVsKey) (t : ℕ) where
   unfolding reach
   first_four = (omega arith, omega arith, omega arith)
 
-  fourth-too : reaches Ambient ≤ reaches Material
+  fourth_too : reaches Ambient ≤ reaches Material
   unfolding reach material_count
-  fourth-too = omega (arith, colours_reach k.lighting_enabled k.specular_enable)
+  fourth_too = omega (arith, colours_reach k.lighting_enabled k.specular_enable)
 
   behind : max (reaches Material) (max (reaches Tt) (reaches Palette)) ≡ greatest_reach (Wv ∷ Proj ∷ Fog ∷ Ambient ∷ Material ∷ Tt ∷ Palette ∷ []) k t
   unfolding greatest_reach
@@ -96,7 +96,7 @@ module _ (k : FfVsKey) (t : ℕ) where
       let last : max (reaches Tt) (reaches Palette) ≡ rest = omega arith in
       let third : ℕ = max (reaches Ambient) (max (reaches Material) rest) in
       ap (max (reaches Material)) last
-      ∙ absorbed (reaches Ambient) (reaches Material) rest fourth-too
+      ∙ absorbed (reaches Ambient) (reaches Material) rest fourth_too
       ∙ absorbed (reaches Fog) (reaches Ambient) (max (reaches Material) rest) first_four.2
       ∙ absorbed (reaches Proj) (reaches Fog) third first_four.1
       ∙ absorbed (reaches Wv) (reaches Proj) (max (reaches Fog) third) first_four.0
@@ -107,8 +107,8 @@ module _ (k : FfVsKey) (t : ℕ) where
   all_read true = regroup (reaches Lights) (reaches Material) (reaches Tt) (reaches Palette) ∙ ap (max (reaches Lights)) behind
   all_read false = regroup 0 (reaches Material) (reaches Tt) (reaches Palette) ∙ sym (absorbed 0 (reaches Material) _ zero-le) ∙ behind
 
-  pub row-count-is : ff_vs_row_count k t ≡ cond k.has_rhw 1 (greatest_reach (read_sections k) k t)
+  pub row_count_is : ff_vs_row_count k t ≡ cond k.has_rhw 1 (greatest_reach (read_sections k) k t)
   unfolding ff_vs_row_count read_sections
-  row-count-is =
+  row_count_is =
       ap (cond k.has_rhw 1)
       (ap₂ max (ap₂ max lighting texture) palette ∙ all_read k.lighting_enabled)

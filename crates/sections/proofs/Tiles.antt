@@ -11,7 +11,7 @@ use Rattle.sections.specs.declared.sections.Section.TheVariants.{Wv, Proj, Mater
 use Rattle.sections.specs.Counts.{section_rows}
 use Rattle.sections.specs.declared.key.FfVsKey.{FfVsKey}
 use Rattle.sections.proofs.Every.{every, each, same_place}
-use Rattle.sections.proofs.Bounds.{material-most, lights_most, palette-most, texture_most}
+use Rattle.sections.proofs.Bounds.{material_most, lights_most, palette_most, texture_most}
 
 -- where a section ends at the latest
 abbrev end : Section → ℕ
@@ -33,24 +33,24 @@ module _ (k : FfVsKey) (t : ℕ) (byte : k.vertex_blend_count < 256) where
   ends Proj = omega arith
   ends Fog = omega arith
   ends Ambient = omega arith
-  ends Material = omega (arith, material-most k)
+  ends Material = omega (arith, material_most k)
   ends Lights = omega (arith, lights_most k)
   ends Tt = omega (arith, texture_most t)
-  ends Palette = omega (arith, palette-most k byte)
+  ends Palette = omega (arith, palette_most k byte)
 
-  pub fits-mirror : (σ : Section) → first_row σ + section_rows σ k t ≤ 1115
-  fits-mirror σ = omega (arith, ends σ, leb→le (end σ) 1115 (each (λ τ. leb (end τ) 1115) tt σ))
+  pub fits_mirror : (σ : Section) → first_row σ + section_rows σ k t ≤ 1115
+  fits_mirror σ = omega (arith, ends σ, leb→le (end σ) 1115 (each (λ τ. leb (end τ) 1115) tt σ))
 
   -- a section that begins before another ends before it: computed for every two
   abbrev ordered : Section → Section → Bool
   ordered σ τ = not (ltb (first_row σ) (first_row τ)) || leb (end σ) (first_row τ)
 
-  all-ordered : T (every (λ σ. every (ordered σ) sections) sections)
-  all-ordered = tt
+  all_ordered : T (every (λ σ. every (ordered σ) sections) sections)
+  all_ordered = tt
 
   pub apart : (σ τ : Section) → first_row σ < first_row τ → first_row σ + section_rows σ k t ≤ first_row τ
   apart σ τ h =
-      let so : T (ordered σ τ) = each (ordered σ) (each (λ σ. every (ordered σ) sections) all-ordered σ) τ in
+      let so : T (ordered σ τ) = each (ordered σ) (each (λ σ. every (ordered σ) sections) all_ordered σ) τ in
       omega (arith, ends σ, follows (first_row σ) (first_row τ) (end σ) so h)
 
 -- no two begin at one row: computed likewise

@@ -22,7 +22,7 @@ use Rattle.d3d9_types.specs.declared.light.D3DLIGHT9.{D3DLIGHT9}
 use Rattle.words.specs.Bits.{has_bit}
 use Rattle.sections.specs.declared.sections.Section.{Section}
 use Rattle.sections.specs.Sections.{all_bits}
-use Rattle.sections.proofs.Every.{same-sections}
+use Rattle.sections.proofs.Every.{same_sections}
 use Rattle.image_reasons.specs.Reasons.{refused}
 use Rattle.sections.specs.Key.{SameShape}
 use Rattle.sections.specs.declared.key.FfVsKey.{FfVsKey}
@@ -51,114 +51,114 @@ free e l =
 -- ---- each kind of call, in every world
 
 module _ (w : World) where
-  pub set-transform-may : (n : ℕ) (m : D3DMATRIX) → matrixFits m → Admits w (own (set_transform n m))
+  pub set_transform_may : (n : ℕ) (m : D3DMATRIX) → matrixFits m → Admits w (own (set_transform n m))
   unfolding accepted_key lent_mirror
-  set-transform-may n m f = (f, free refl refl)
+  set_transform_may n m f = (f, free refl refl)
 
-  pub multiply-transform-may : (n : ℕ) (m : D3DMATRIX) → matrixFits m → Admits w (own (multiply_transform n m))
+  pub multiply_transform_may : (n : ℕ) (m : D3DMATRIX) → matrixFits m → Admits w (own (multiply_transform n m))
   unfolding accepted_key lent_mirror
-  multiply-transform-may n m f = (f, free refl refl)
+  multiply_transform_may n m f = (f, free refl refl)
 
-  pub set-material-may : (m : D3DMATERIAL9) → materialFits m → Admits w (own (set_material m))
+  pub set_material_may : (m : D3DMATERIAL9) → materialFits m → Admits w (own (set_material m))
   unfolding accepted_key lent_mirror
-  set-material-may m f = (f, free refl refl)
+  set_material_may m f = (f, free refl refl)
 
-  pub set-light-may : (i : ℕ) (l : D3DLIGHT9) → i < 0x1_0000_0000 → lightFits l → Admits w (own (set_light i l))
+  pub set_light_may : (i : ℕ) (l : D3DLIGHT9) → i < 0x1_0000_0000 → lightFits l → Admits w (own (set_light i l))
   unfolding accepted_key lent_mirror
-  set-light-may i l u f = ((u, f), free refl refl)
+  set_light_may i l u f = ((u, f), free refl refl)
 
-  pub enable-light-may : (i : ℕ) (on : Bool) → i < 0x1_0000_0000 → Admits w (own (enable_light i on))
+  pub enable_light_may : (i : ℕ) (on : Bool) → i < 0x1_0000_0000 → Admits w (own (enable_light i on))
   unfolding accepted_key lent_mirror
-  enable-light-may i on u = (u, free refl refl)
+  enable_light_may i on u = (u, free refl refl)
 
-  pub set-fog-start-may : (x : Float) → float_fits x → Admits w (own (set_fog_start x))
+  pub set_fog_start_may : (x : Float) → float_fits x → Admits w (own (set_fog_start x))
   unfolding accepted_key lent_mirror
-  set-fog-start-may x f = (f, free refl refl)
+  set_fog_start_may x f = (f, free refl refl)
 
-  pub set-fog-end-may : (x : Float) → float_fits x → Admits w (own (set_fog_end x))
+  pub set_fog_end_may : (x : Float) → float_fits x → Admits w (own (set_fog_end x))
   unfolding accepted_key lent_mirror
-  set-fog-end-may x f = (f, free refl refl)
+  set_fog_end_may x f = (f, free refl refl)
 
-  pub set-fog-density-may : (x : Float) → float_fits x → Admits w (own (set_fog_density x))
+  pub set_fog_density_may : (x : Float) → float_fits x → Admits w (own (set_fog_density x))
   unfolding accepted_key lent_mirror
-  set-fog-density-may x f = (f, free refl refl)
+  set_fog_density_may x f = (f, free refl refl)
 
-  pub set-ambient-may : (c : ℕ) → c < 0x1_0000_0000 → Admits w (own (set_ambient c))
+  pub set_ambient_may : (c : ℕ) → c < 0x1_0000_0000 → Admits w (own (set_ambient c))
   unfolding accepted_key lent_mirror
-  set-ambient-may c u = (u, free refl refl)
+  set_ambient_may c u = (u, free refl refl)
 
-  pub set-texture-mask-may : (t : ℕ) → t < 256 → Admits w (own (set_texture_mask t))
+  pub set_texture_mask_may : (t : ℕ) → t < 256 → Admits w (own (set_texture_mask t))
   unfolding accepted_key lent_mirror
-  set-texture-mask-may t u = (u, free refl refl)
+  set_texture_mask_may t u = (u, free refl refl)
 
-  pub mark-may : (bits : ℕ) → Admits w (own (mark bits))
+  pub mark_may : (bits : ℕ) → Admits w (own (mark bits))
   unfolding accepted_key lent_mirror
-  mark-may bits = (tt, free refl refl)
+  mark_may bits = (tt, free refl refl)
 
-  pub read-in-may : (bytes : List ℕ) → Bytes bytes → Admits w (read_in bytes)
+  pub read_in_may : (bytes : List ℕ) → Bytes bytes → Admits w (read_in bytes)
   unfolding accepted_key lent_mirror
-  read-in-may bytes b = (b, free refl refl)
+  read_in_may bytes b = (b, free refl refl)
 
-  pub overwrite-may : (r : ℕ) (x y z t : Float) → Admits w (overwrite r x y z t)
+  pub overwrite_may : (r : ℕ) (x y z t : Float) → Admits w (overwrite r x y z t)
   unfolding accepted_key lent_mirror
-  overwrite-may r x y z t = (tt, free refl refl)
+  overwrite_may r x y z t = (tt, free refl refl)
 
   pub reads_may : Admits w Calls.Call.reads
   unfolding accepted_key lent_mirror
   reads_may = (tt, free refl refl)
 
-  pub host-set-transform-may : (n : ℕ) (m : List ℕ) → Bytes m → Admits w (host (operates (set_transform n m)))
+  pub host_set_transform_may : (n : ℕ) (m : List ℕ) → Bytes m → Admits w (host (operates (set_transform n m)))
   unfolding accepted_key host_key lent_mirror host_mirror
-  host-set-transform-may n m b = (b, free refl refl)
+  host_set_transform_may n m b = (b, free refl refl)
 
-  pub host-multiply-transform-may : (n : ℕ) (m : List ℕ) → Bytes m → Admits w (host (operates (multiply_transform n m)))
+  pub host_multiply_transform_may : (n : ℕ) (m : List ℕ) → Bytes m → Admits w (host (operates (multiply_transform n m)))
   unfolding accepted_key host_key lent_mirror host_mirror
-  host-multiply-transform-may n m b = (b, free refl refl)
+  host_multiply_transform_may n m b = (b, free refl refl)
 
-  pub host-set-material-may : (m : List ℕ) → Bytes m → Admits w (host (operates (set_material m)))
+  pub host_set_material_may : (m : List ℕ) → Bytes m → Admits w (host (operates (set_material m)))
   unfolding accepted_key host_key lent_mirror host_mirror
-  host-set-material-may m b = (b, free refl refl)
+  host_set_material_may m b = (b, free refl refl)
 
-  pub host-set-light-may : (i : ℕ) (l : List ℕ) → i < 0x1_0000_0000 → Bytes l → Admits w (host (operates (set_light i l)))
+  pub host_set_light_may : (i : ℕ) (l : List ℕ) → i < 0x1_0000_0000 → Bytes l → Admits w (host (operates (set_light i l)))
   unfolding accepted_key host_key lent_mirror host_mirror
-  host-set-light-may i l u b = ((u, b), free refl refl)
+  host_set_light_may i l u b = ((u, b), free refl refl)
 
-  pub host-enable-light-may : (i on : ℕ) → i < 0x1_0000_0000 → Admits w (host (operates (enable_light i on)))
+  pub host_enable_light_may : (i on : ℕ) → i < 0x1_0000_0000 → Admits w (host (operates (enable_light i on)))
   unfolding accepted_key host_key lent_mirror host_mirror
-  host-enable-light-may i on u = (u, free refl refl)
+  host_enable_light_may i on u = (u, free refl refl)
 
-  pub host-set-fog-start-may : (bits : ℕ) → bits < 0x1_0000_0000 → Admits w (host (operates (set_fog_start bits)))
+  pub host_set_fog_start_may : (bits : ℕ) → bits < 0x1_0000_0000 → Admits w (host (operates (set_fog_start bits)))
   unfolding accepted_key host_key lent_mirror host_mirror
-  host-set-fog-start-may bits u = (u, free refl refl)
+  host_set_fog_start_may bits u = (u, free refl refl)
 
-  pub host-set-fog-end-may : (bits : ℕ) → bits < 0x1_0000_0000 → Admits w (host (operates (set_fog_end bits)))
+  pub host_set_fog_end_may : (bits : ℕ) → bits < 0x1_0000_0000 → Admits w (host (operates (set_fog_end bits)))
   unfolding accepted_key host_key lent_mirror host_mirror
-  host-set-fog-end-may bits u = (u, free refl refl)
+  host_set_fog_end_may bits u = (u, free refl refl)
 
-  pub host-set-fog-density-may : (bits : ℕ) → bits < 0x1_0000_0000 → Admits w (host (operates (set_fog_density bits)))
+  pub host_set_fog_density_may : (bits : ℕ) → bits < 0x1_0000_0000 → Admits w (host (operates (set_fog_density bits)))
   unfolding accepted_key host_key lent_mirror host_mirror
-  host-set-fog-density-may bits u = (u, free refl refl)
+  host_set_fog_density_may bits u = (u, free refl refl)
 
-  pub host-set-ambient-may : (c : ℕ) → c < 0x1_0000_0000 → Admits w (host (operates (set_ambient c)))
+  pub host_set_ambient_may : (c : ℕ) → c < 0x1_0000_0000 → Admits w (host (operates (set_ambient c)))
   unfolding accepted_key host_key lent_mirror host_mirror
-  host-set-ambient-may c u = (u, free refl refl)
+  host_set_ambient_may c u = (u, free refl refl)
 
-  pub host-set-texture-mask-may : (t : ℕ) → t < 256 → Admits w (host (operates (set_texture_mask t)))
+  pub host_set_texture_mask_may : (t : ℕ) → t < 256 → Admits w (host (operates (set_texture_mask t)))
   unfolding accepted_key host_key lent_mirror host_mirror
-  host-set-texture-mask-may t u = (u, free refl refl)
+  host_set_texture_mask_may t u = (u, free refl refl)
 
-  pub host-mark-may : (bits : ℕ) → Admits w (host (operates (mark bits)))
+  pub host_mark_may : (bits : ℕ) → Admits w (host (operates (mark bits)))
   unfolding accepted_key host_key lent_mirror host_mirror
-  host-mark-may bits = (tt, free refl refl)
+  host_mark_may bits = (tt, free refl refl)
 
-  pub host-reads-may : Admits w (host Calls.HostCall.reads)
+  pub host_reads_may : Admits w (host Calls.HostCall.reads)
   unfolding accepted_key host_key lent_mirror host_mirror
-  host-reads-may = (tt, free refl refl)
+  host_reads_may = (tt, free refl refl)
 
   -- on another image: whatever may be done on the one that stands for the state, but for a refresh that the image would have accepted
-  pub on-another-may : (bytes : List ℕ) (h : HostCall) → Bytes bytes → Admits w (host h) → accepted_key w (host_on bytes h) ≡ none → Admits w (host_on bytes h)
+  pub on_another_may : (bytes : List ℕ) (h : HostCall) → Bytes bytes → Admits w (host h) → accepted_key w (host_on bytes h) ≡ none → Admits w (host_on bytes h)
   unfolding lent_mirror
-  on-another-may bytes h b (fit, kept) e = (
+  on_another_may bytes h b (fit, kept) e = (
     (b, fit),
     record {
       mirror = kept.mirror;
@@ -174,44 +174,44 @@ module _ (w : World) (k : FfVsKey) (mask : k.light_active_mask < 256) (fog : k.f
   fits : KeyFits k
   fits = record { mask = mask; fog = fog; count = count }
 
-  accepts-only : (a : AbstractState) (j : FfVsKey) (whole : Bool) → accepts a k whole ≡ some j → k ≡ j
+  accepts_only : (a : AbstractState) (j : FfVsKey) (whole : Bool) → accepts a k whole ≡ some j → k ≡ j
   unfolding accepts
-  accepts-only a j whole e = go (eqb (refresh_refusal a k whole) 0) refl
+  accepts_only a j whole e = go (eqb (refresh_refusal a k whole) 0) refl
     where
       go : (t : Bool) → eqb (refresh_refusal a k whole) 0 ≡ t → k ≡ j
       go true q = cc (rw q at e)
       go false q = not_some (rw q at e)
 
   -- "Only a refused refresh may be lent another slice."
-  pub refused-may : (m : List Float) → accepted_key w (refresh k (another m)) ≡ none → Admits w (refresh k (another m))
+  pub refused_may : (m : List Float) → accepted_key w (refresh k (another m)) ≡ none → Admits w (refresh k (another m))
   unfolding lent_mirror of_mirror
-  refused-may m e = (fits, free e refl)
+  refused_may m e = (fits, free e refl)
 
-  pub host-refused-may : (bytes : List ℕ) → Bytes bytes → accepted_key w (host (refreshes k (another bytes))) ≡ none → Admits w (host (refreshes k (another bytes)))
+  pub host_refused_may : (bytes : List ℕ) → Bytes bytes → accepted_key w (host (refreshes k (another bytes))) ≡ none → Admits w (host (refreshes k (another bytes)))
   unfolding slice lent_mirror host_mirror of_mirror
-  host-refused-may bytes b e = ((fits, b), free e refl)
+  host_refused_may bytes b e = ((fits, b), free e refl)
 
   module _ (kept : Marked w.track k) where
-    pub refresh-may : Admits w (refresh k (the_mirror w.track.mirror))
+    pub refresh_may : Admits w (refresh k (the_mirror w.track.mirror))
     unfolding accepted_key lent_mirror of_mirror
-    refresh-may = (
+    refresh_may = (
       fits,
       record {
         mirror = λ m q. cc;
         lent = λ j q z. not_some (sym z);
-        shape = λ i j p q n. kept.shape i p (subst (λ (x : FfVsKey). SameShape i x → ⊥) (sym (accepts-only _ j _ q)) n);
+        shape = λ i j p q n. kept.shape i p (subst (λ (x : FfVsKey). SameShape i x → ⊥) (sym (accepts_only _ j _ q)) n);
         image = λ j q. ((λ x. x), kept.image);
       },
     )
 
-    pub host-refresh-may : (bytes : List ℕ) → Bytes bytes → mirror_floats bytes ≡ w.track.mirror → Admits w (host (refreshes k (the_mirror bytes)))
+    pub host_refresh_may : (bytes : List ℕ) → Bytes bytes → mirror_floats bytes ≡ w.track.mirror → Admits w (host (refreshes k (the_mirror bytes)))
     unfolding accepted_key host_key slice lent_mirror host_mirror of_mirror
-    host-refresh-may bytes b same = (
+    host_refresh_may bytes b same = (
       (fits, b),
       record {
         mirror = λ m q. cc;
         lent = λ j q z. not_some (sym z);
-        shape = λ i j p q n. kept.shape i p (subst (λ (x : FfVsKey). SameShape i x → ⊥) (sym (accepts-only _ j _ q)) n);
+        shape = λ i j p q n. kept.shape i p (subst (λ (x : FfVsKey). SameShape i x → ⊥) (sym (accepts_only _ j _ q)) n);
         image = λ j q. ((λ x. x), kept.image);
       },
     )
@@ -227,24 +227,24 @@ again_marked t j k last same ends = record { shape = λ i q n. absurd (n (subst 
 -- and whatever needed marking, none after all are marked, by value or by the host
 pub marks_all : (a : AbstractState) (σ : Section) → marks a (mark all_bits) σ ≡ true
 unfolding marks abstract_refusal marks_section has_bit
-marks_all a = same-sections (marks a (mark all_bits)) (λ σ. true) refl
+marks_all a = same_sections (marks a (mark all_bits)) (λ σ. true) refl
 
 module _ (R : Refresher) (w : World) (k : FfVsKey) where
-  all-marked : Marked (track_marked (marks w.abstract (mark all_bits)) w.track) k
+  all_marked : Marked (track_marked (marks w.abstract (mark all_bits)) w.track) k
   unfolding track_marked
-  all-marked =
+  all_marked =
       record {
         shape = λ j q n σ. rw (marks_all w.abstract σ) (or-true (w.track.marked σ));
         image = λ σ. rw (marks_all w.abstract σ) (and_false (w.track.needs_marking σ));
       }
 
-  pub own-marked : Marked (step R (own (mark all_bits)) w).track k
+  pub own_marked : Marked (step R (own (mark all_bits)) w).track k
   unfolding step standing operated
-  own-marked = all-marked
+  own_marked = all_marked
 
-  pub host-marked : Marked (step R (host (operates (mark all_bits))) w).track k
+  pub host_marked : Marked (step R (host (operates (mark all_bits))) w).track k
   unfolding step host_step standing operation_of is_whole said operated_if operated
-  host-marked = all-marked
+  host_marked = all_marked
 
 -- ---- which refreshes are accepted: the claim speaks of each that document 01's rule accepts, by value, by the host, and on another image
 
@@ -253,26 +253,26 @@ module _ (w : World) (k : FfVsKey) where
   unfolding accepts
   accepts_is a t e z = rw (e, eq-eqb (refresh_refusal a k true) 0 z)
 
-  refuses-is : (a : AbstractState) (t : Bool) → (refresh_refusal a k t ≡ 0 → ⊥) → accepts a k t ≡ none
+  refuses_is : (a : AbstractState) (t : Bool) → (refresh_refusal a k t ≡ 0 → ⊥) → accepts a k t ≡ none
   unfolding accepts
-  refuses-is a t f = rw (ne_eqb (refresh_refusal a k t) 0 f)
+  refuses_is a t f = rw (ne_eqb (refresh_refusal a k t) 0 f)
 
   pub accepted_is : (l : Calls.Lent Float) → length (slice l) ≡ 4460 → refresh_refusal w.abstract k true ≡ 0 → accepted_key w (refresh k l) ≡ some k
   unfolding accepted_key
   accepted_is l long z = accepts_is w.abstract (eqb (length (slice l)) 4460) (eq-eqb _ _ long) z
 
-  pub host-accepted-is : (l : Calls.Lent ℕ) → length (slice l) ≡ 17_840 → refresh_refusal w.abstract k true ≡ 0 → accepted_key w (host (refreshes k l)) ≡ some k
+  pub host_accepted_is : (l : Calls.Lent ℕ) → length (slice l) ≡ 17_840 → refresh_refusal w.abstract k true ≡ 0 → accepted_key w (host (refreshes k l)) ≡ some k
   unfolding accepted_key host_key
-  host-accepted-is l long z = accepts_is w.abstract (eqb (length (slice l)) 17_840) (eq-eqb _ _ long) z
+  host_accepted_is l long z = accepts_is w.abstract (eqb (length (slice l)) 17_840) (eq-eqb _ _ long) z
 
   pub refused_is : (l : Calls.Lent Float) → (refresh_refusal w.abstract k (eqb (length (slice l)) 4460) ≡ 0 → ⊥) → accepted_key w (refresh k l) ≡ none
   unfolding accepted_key
-  refused_is l f = refuses-is w.abstract _ f
+  refused_is l f = refuses_is w.abstract _ f
 
-  pub host-refused-is : (l : Calls.Lent ℕ) → (refresh_refusal w.abstract k (eqb (length (slice l)) 17_840) ≡ 0 → ⊥) → accepted_key w (host (refreshes k l)) ≡ none
+  pub host_refused_is : (l : Calls.Lent ℕ) → (refresh_refusal w.abstract k (eqb (length (slice l)) 17_840) ≡ 0 → ⊥) → accepted_key w (host (refreshes k l)) ≡ none
   unfolding accepted_key host_key
-  host-refused-is l f = refuses-is w.abstract _ f
+  host_refused_is l f = refuses_is w.abstract _ f
 
-  pub no-image-is : (bytes : List ℕ) (h : HostCall) → refused bytes ≡ true → accepted_key w (host_on bytes h) ≡ none
+  pub no_image_is : (bytes : List ℕ) (h : HostCall) → refused bytes ≡ true → accepted_key w (host_on bytes h) ≡ none
   unfolding accepted_key
-  no-image-is bytes h e = rw e
+  no_image_is bytes h e = rw e

@@ -38,19 +38,19 @@ use Rattle.refresh.proofs.Packed.{Ready}
 use Rattle.refresh_calls.specs.Written.{mirror_floats}
 use Rattle.refresh_calls.specs.Mirror.{HostRefreshed, ff_refresh_number, ff_refresh}
 use Rattle.call_laws.specs.HostOperations.{HostOperation, operation_of, ItemFits}
-use Rattle.call_laws.proofs.HostOperations.{operation_fits, host-accepted-kept, host-unsaid, host-state}
+use Rattle.call_laws.proofs.HostOperations.{operation_fits, host_accepted_kept, host_unsaid, host_state}
 use Rattle.trace.specs.Calls.{Lent, the_mirror, another, slice, HostCall, operates, refreshes, Call, own, read_in, refresh, overwrite, host, host_on}
 use Rattle.trace.specs.Calls as Calls
 use Rattle.trace.specs.World.{World, Track, Stored, value, in_image, as_state, as_image, held, track_read_in, start, standing, operated_if, image_read, refreshed_if, wrong_rows}
 use Rattle.trace.specs.Step.{refresh_refusal, accepts, host_key, accepted_key, ours, leaving, host_step, unread, handed, step, run}
 use Rattle.trace.specs.Claim.{KeyFits, HostTyped, of_mirror, host_mirror, lent_mirror, Keeps, Admits, Admissible, AlwaysRight}
-use Rattle.trace.proofs.HostCalls.{host-refresh-old, host-refresh-new}
-use Rattle.trace.proofs.Invariant.{Stands, Invariant, writing_stands, by-value, image-accepted, by-host, begins, after_image, after-operated, after-standing, after-overwrite, after-left, after-refresh, refresh-right}
+use Rattle.trace.proofs.HostCalls.{host_refresh_old, host_refresh_new}
+use Rattle.trace.proofs.Invariant.{Stands, Invariant, writing_stands, by-value, image_accepted, by-host, begins, after_image, after_operated, after_standing, after_overwrite, after_left, after_refresh, refresh_right}
 use Rattle.refresh_calls.proofs.MirrorBytes.{written-floats}
-use Rattle.trace.proofs.Refusals.{number_accepted, answer-number, host-refresh-number, passes}
+use Rattle.trace.proofs.Refusals.{number_accepted, answer_number, host_refresh_number, passes}
 use Rattle.trace.proofs.Tracked.{Marked}
 use Rattle.calls.specs.Answer.{Answer}
-use Rattle.refresh_calls.proofs.Outcomes.{refresh-nine}
+use Rattle.refresh_calls.proofs.Outcomes.{refresh_nine}
 
 abbrev pub Good : World → Type 0
 Good w = (s : FfState) × Invariant w s
@@ -73,20 +73,20 @@ pub record Lends {A : Type 0} (floatsOf : List A → List Float) (t : Track) (k 
   pub marked : o ≡ some k → Marked t k
 
 module _ {A : Type 0} (floatsOf : List A → List Float) {w : World} {s : FfState} (inv : Invariant w s) {k : FfVsKey} {o : Option FfVsKey} {left : List Float} {h : Stored} where
-  refresh-good : (l : Lent A) → Lends floatsOf w.track k o l → Leaves s k o (floatsOf (slice l)) left h → Good (standing h (refreshed_if o (leaving l left w)))
+  refresh_good : (l : Lent A) → Lends floatsOf w.track k o l → Leaves s k o (floatsOf (slice l)) left h → Good (standing h (refreshed_if o (leaving l left w)))
   unfolding slice leaving of_mirror refreshed_if
-  refresh-good (the_mirror m) c (writes e ready is st) =
-      rw e ((take_ff_vs_dirty s).state, after-refresh inv k ready (c.marked e) h left (is ∙ ap (written sections (dirty_word s) s k) (c.mirror (floatsOf m) refl)) st)
-  refresh-good (the_mirror m) c (refuses e is st) = rw e (s, after-standing (after-left inv left (is ∙ c.mirror (floatsOf m) refl)) h st)
-  refresh-good (another m) c (writes e ready is st) = absurd (c.lent e refl)
-  refresh-good (another m) c (refuses e is st) = rw e (s, after-standing inv h st)
+  refresh_good (the_mirror m) c (writes e ready is st) =
+      rw e ((take_ff_vs_dirty s).state, after_refresh inv k ready (c.marked e) h left (is ∙ ap (written sections (dirty_word s) s k) (c.mirror (floatsOf m) refl)) st)
+  refresh_good (the_mirror m) c (refuses e is st) = rw e (s, after_standing (after_left inv left (is ∙ c.mirror (floatsOf m) refl)) h st)
+  refresh_good (another m) c (writes e ready is st) = absurd (c.lent e refl)
+  refresh_good (another m) c (refuses e is st) = rw e (s, after_standing inv h st)
 
-  refreshed-right : (l : Lent A) → Lends floatsOf w.track k o l → Leaves s k o (floatsOf (slice l)) left h → o ≡ some k → Right (standing h (refreshed_if o (leaving l left w))) k
+  refreshed_right : (l : Lent A) → Lends floatsOf w.track k o l → Leaves s k o (floatsOf (slice l)) left h → o ≡ some k → Right (standing h (refreshed_if o (leaving l left w))) k
   unfolding slice leaving of_mirror refreshed_if
-  refreshed-right (the_mirror m) c (writes e ready is st) q =
-      rw e (refresh-right inv k ready (c.marked e) h left (is ∙ ap (written sections (dirty_word s) s k) (c.mirror (floatsOf m) refl)))
-  refreshed-right (another m) c (writes e ready is st) q = absurd (c.lent e refl)
-  refreshed-right l c (refuses e is st) q = not_some (sym e ∙ q)
+  refreshed_right (the_mirror m) c (writes e ready is st) q =
+      rw e (refresh_right inv k ready (c.marked e) h left (is ∙ ap (written sections (dirty_word s) s k) (c.mirror (floatsOf m) refl)))
+  refreshed_right (another m) c (writes e ready is st) q = absurd (c.lent e refl)
+  refreshed_right l c (refuses e is st) q = not_some (sym e ∙ q)
 
 -- ---- a refresh by value
 
@@ -106,12 +106,12 @@ ready_for : {w : World} {s : FfState} → Invariant w s → (k : FfVsKey) → Ke
 ready_for {s = s} inv k fit n e = record { count = fit.count; palette = inv.valid.palette_length; textures = inv.valid.texture_length; mask = (accepted_fits s k n e).mask }
 
 module _ {w : World} {s : FfState} (inv : Invariant w s) (k : FfVsKey) (fit : KeyFits k) (lent : List Float) where
-  value-leaves : Leaves s k (accepts w.abstract k (eqb (length lent) 4460)) lent (refresh_mirror s k lent).floats (value (refresh_mirror s k lent).result.state)
+  value_leaves : Leaves s k (accepts w.abstract k (eqb (length lent) 4460)) lent (refresh_mirror s k lent).floats (value (refresh_mirror s k lent).result.state)
   unfolding refresh_number
-  value-leaves = ⊎_elim yes no (accepts_is w.abstract k (eqb (length lent) 4460))
+  value_leaves = ⊎_elim yes no (accepts_is w.abstract k (eqb (length lent) 4460))
     where
       number : refresh_number (refresh_answer s k (length lent)) ≡ refresh_refusal w.abstract k (eqb (length lent) 4460)
-      number = answer-number inv.valid inv.agrees k (length lent)
+      number = answer_number inv.valid inv.agrees k (length lent)
 
       yes : (refresh_refusal w.abstract k (eqb (length lent) 4460) ≡ 0) × (accepts w.abstract k (eqb (length lent) 4460) ≡ some k)
           → Leaves s k (accepts w.abstract k (eqb (length lent) 4460)) lent (refresh_mirror s k lent).floats (value (refresh_mirror s k lent).result.state)
@@ -143,32 +143,32 @@ module _ {w : World} (a : IsAccepted (as_image w.stored)) (inv : Invariant w (st
   written_stands : (bytes : List ℕ) (s : FfState) → bytes ≡ image_bytes s → Valid s → Stands (in_image old bytes) s
   written_stands bytes s e v = subst (λ (b : List ℕ). Stands (in_image old b) s) (sym e) (writing_stands old s v)
 
-  operation-good : (h : HostOperation) → ItemFits h → Good (host_step ours (operates h) w)
+  operation_good : (h : HostOperation) → ItemFits h → Good (host_step ours (operates h) w)
   unfolding host_step operated_if
-  operation-good h fit = go (operation_of h) refl
+  operation_good h fit = go (operation_of h) refl
     where
       go : (o : Option Operation) → operation_of h ≡ o → Good (host_step ours (operates h) w)
-      go none e = rw e (state_of image, after-standing inv _ (stays _ (host-unsaid h image a e)))
+      go none e = rw e (state_of image, after_standing inv _ (stays _ (host_unsaid h image a e)))
       go (some op) e =
           rw e (
             (operate (state_of image) op).state,
-            after-operated inv op (operation_fits h op e fit) _ (host-accepted-kept h image a fit, host-state h image a op e fit),
+            after_operated inv op (operation_fits h op e fit) _ (host_accepted_kept h image a fit, host_state h image a op e fit),
           )
 
-  host-refresh-leaves : (k : FfVsKey) → KeyFits k → (lent : List ℕ)
+  host_refresh_leaves : (k : FfVsKey) → KeyFits k → (lent : List ℕ)
       → Leaves (state_of image) k (accepts w.abstract k (eqb (length lent) 17_840)) (mirror_floats lent) (mirror_floats (ff_refresh image k lent 0).out.mirror) (in_image old (ff_refresh image k lent 0).out.image)
   unfolding take_ff_vs_dirty
-  host-refresh-leaves k fit lent = ⊎_elim yes no (accepts_is w.abstract k (eqb (length lent) 17_840))
+  host_refresh_leaves k fit lent = ⊎_elim yes no (accepts_is w.abstract k (eqb (length lent) 17_840))
     where
       number : ff_refresh_number k lent (state_of image) ≡ refresh_refusal w.abstract k (eqb (length lent) 17_840)
-      number = host-refresh-number inv.valid inv.agrees k lent
+      number = host_refresh_number inv.valid inv.agrees k lent
 
       yes : (refresh_refusal w.abstract k (eqb (length lent) 17_840) ≡ 0) × (accepts w.abstract k (eqb (length lent) 17_840) ≡ some k)
           → Leaves (state_of image) k (accepts w.abstract k (eqb (length lent) 17_840)) (mirror_floats lent) (mirror_floats (ff_refresh image k lent 0).out.mirror) (in_image old (ff_refresh image k lent 0).out.image)
       yes y =
-          let is = host-refresh-new image k lent a.taken (number ∙ y.0) in
+          let is = host_refresh_new image k lent a.taken (number ∙ y.0) in
           let passed = passes w.abstract k lent y.0 in
-          let taken = number_accepted (refresh_answer (state_of image) k 4460) (answer-number inv.valid inv.agrees k 4460 ∙ passed.1) in
+          let taken = number_accepted (refresh_answer (state_of image) k 4460) (answer_number inv.valid inv.agrees k 4460 ∙ passed.1) in
           let ready = ready_for inv k fit 4460 taken in
           writes y.1 ready
           (ap (λ (r : HostRefreshed). mirror_floats r.mirror) is ∙ written-floats ready inv.valid (dirty_word (state_of image)) sections lent passed.0)
@@ -177,7 +177,7 @@ module _ {w : World} (a : IsAccepted (as_image w.stored)) (inv : Invariant w (st
       no : (refresh_refusal w.abstract k (eqb (length lent) 17_840) ≡ 0 → ⊥) × (accepts w.abstract k (eqb (length lent) 17_840) ≡ none)
           → Leaves (state_of image) k (accepts w.abstract k (eqb (length lent) 17_840)) (mirror_floats lent) (mirror_floats (ff_refresh image k lent 0).out.mirror) (in_image old (ff_refresh image k lent 0).out.image)
       no n =
-          let is = host-refresh-old image k lent a.taken (λ (e : ff_refresh_number k lent (state_of image) ≡ 0). n.0 (sym number ∙ e)) in
+          let is = host_refresh_old image k lent a.taken (λ (e : ff_refresh_number k lent (state_of image) ≡ 0). n.0 (sym number ∙ e)) in
           refuses n.1 (ap (λ (r : HostRefreshed). mirror_floats r.mirror) is) (stays _ (ap (λ (r : HostRefreshed). r.image) is))
 
   -- what demand 3 asks of a host's call on this image
@@ -190,20 +190,20 @@ module _ {w : World} (a : IsAccepted (as_image w.stored)) (inv : Invariant w (st
   unfolding host_mirror host_key
   lends k l c = record { mirror = c.mirror; lent = c.lent k; marked = c.marked k }
 
-  host-good : (h : HostCall) → HostTyped h → HostKeeps h → Good (host_step ours h w)
+  host_good : (h : HostCall) → HostTyped h → HostKeeps h → Good (host_step ours h w)
   unfolding host_step host_key
-  host-good (operates h) fit c = operation-good h fit
-  host-good (refreshes k l) fit c = refresh-good mirror_floats inv l (lends k l c) (host-refresh-leaves k fit.0 (slice l))
-  host-good Calls.HostCall.reads fit c = (state_of image, after-standing inv _ (stays image refl))
+  host_good (operates h) fit c = operation_good h fit
+  host_good (refreshes k l) fit c = refresh_good mirror_floats inv l (lends k l c) (host_refresh_leaves k fit.0 (slice l))
+  host_good Calls.HostCall.reads fit c = (state_of image, after_standing inv _ (stays image refl))
 
-  host-right : (h : HostCall) → HostTyped h → HostKeeps h → (k : FfVsKey) → host_key w.abstract h ≡ some k → Right (host_step ours h w) k
+  host_right : (h : HostCall) → HostTyped h → HostKeeps h → (k : FfVsKey) → host_key w.abstract h ≡ some k → Right (host_step ours h w) k
   unfolding host_step host_key
-  host-right (operates h) fit c k e = not_some e
-  host-right (refreshes j l) fit c k e =
+  host_right (operates h) fit c k e = not_some e
+  host_right (refreshes j l) fit c k e =
       let same = accepts_same w.abstract j k (eqb (length (slice l)) 17_840) e in
       subst (Right (host_step ours (refreshes j l) w)) same
-      (refreshed-right mirror_floats inv l (lends j l c) (host-refresh-leaves j fit.0 (slice l)) (e ∙ ap some (sym same)))
-  host-right Calls.HostCall.reads fit c k e = not_some e
+      (refreshed_right mirror_floats inv l (lends j l c) (host_refresh_leaves j fit.0 (slice l)) (e ∙ ap some (sym same)))
+  host_right Calls.HostCall.reads fit c k e = not_some e
 
 -- ---- every call
 
@@ -218,7 +218,7 @@ unfolding step read_image
 read_good w g bytes b = go (refused bytes) refl
   where
     go : (t : Bool) → refused bytes ≡ t → Good (step ours (read_in bytes) w)
-    go true q = rw q (as_state w.stored, after-standing (by-value g.1) _ refl)
+    go true q = rw q (as_state w.stored, after_standing (by-value g.1) _ refl)
     go false q =
         let a : IsAccepted bytes = record { each = b; taken = q } in
         rw q (state_of bytes, after_image g.1 bytes a (value (state_of bytes)) refl)
@@ -229,13 +229,13 @@ KeepsTo w c = Keeps w.track (accepted_key w c) c
 marked_is : {t : Track} {o : Option FfVsKey} {c : Call} → Keeps t o c → (k : FfVsKey) → o ≡ some k → Marked t k
 marked_is kept k e = record { shape = λ j q n. kept.shape j k q e n; image = (kept.image k e).1 }
 
-host_keeps : {w : World} (g : Good w) (h : HostCall) → KeepsTo w (host h) → HostKeeps (image-accepted g.1) (by-host g.1) h
+host_keeps : {w : World} (g : Good w) (h : HostCall) → KeepsTo w (host h) → HostKeeps (image_accepted g.1) (by-host g.1) h
 unfolding accepted_key lent_mirror
 host_keeps g h kept = record { mirror = kept.mirror; lent = kept.lent; marked = marked_is kept }
 
 -- a host's call on another image is no accepted refresh: the image that it reads in would be unmarked
 on_another : {w : World} (bytes : List ℕ) (b : Bytes bytes) (ok : refused bytes ≡ false) (g : Good w) (h : HostCall) → KeepsTo w (host_on bytes h)
-    → HostKeeps (image-accepted (handed_good w g bytes b ok).1) (by-host (handed_good w g bytes b ok).1) h
+    → HostKeeps (image_accepted (handed_good w g bytes b ok).1) (by-host (handed_good w g bytes b ok).1) h
 unfolding accepted_key lent_mirror image_read track_read_in
 on_another bytes b ok g h kept =
     record {
@@ -249,7 +249,7 @@ unread_good : (bytes : List ℕ) → refused bytes ≡ true → {w : World} → 
 unfolding unread leaving slice lent_mirror host_mirror of_mirror
 unread_good bytes bad g (operates h) kept = g
 unread_good bytes bad g (refreshes k (the_mirror m)) kept =
-    (g.0, after-left g.1 _ (ap (λ (r : Answer HostRefreshed). mirror_floats r.out.mirror) (sym (refresh-nine bytes k m 0 bad)) ∙ kept.mirror (mirror_floats m) refl))
+    (g.0, after_left g.1 _ (ap (λ (r : Answer HostRefreshed). mirror_floats r.out.mirror) (sym (refresh_nine bytes k m 0 bad)) ∙ kept.mirror (mirror_floats m) refl))
 unread_good bytes bad g (refreshes k (another m)) kept = g
 unread_good bytes bad g Calls.HostCall.reads kept = g
 
@@ -259,16 +259,16 @@ value_lends w k l kept = record { mirror = kept.mirror; lent = kept.lent k; mark
 
 pub step_good : (c : Call) (w : World) → Admits w c → Good w → Good (step ours c w)
 unfolding step accepted_key
-step_good (own op) w (fit, kept) g = ((operate (as_state w.stored) op).state, after-operated (by-value g.1) op fit _ refl)
+step_good (own op) w (fit, kept) g = ((operate (as_state w.stored) op).state, after_operated (by-value g.1) op fit _ refl)
 step_good (read_in bytes) w (fit, kept) g = read_good w g bytes fit
-step_good (refresh k l) w (fit, kept) g = refresh-good (λ m. m) (by-value g.1) l (value_lends w k l kept) (value-leaves (by-value g.1) k fit (slice l))
-step_good (overwrite r x y z t) w (fit, kept) g = (g.0, after-overwrite g.1 r x y z t)
-step_good (host h) w (fit, kept) g = host-good (image-accepted g.1) (by-host g.1) h fit (host_keeps g h kept)
+step_good (refresh k l) w (fit, kept) g = refresh_good (λ m. m) (by-value g.1) l (value_lends w k l kept) (value_leaves (by-value g.1) k fit (slice l))
+step_good (overwrite r x y z t) w (fit, kept) g = (g.0, after_overwrite g.1 r x y z t)
+step_good (host h) w (fit, kept) g = host_good (image_accepted g.1) (by-host g.1) h fit (host_keeps g h kept)
 step_good (host_on bytes h) w (fit, kept) g =
     branch Good (refused bytes) _ _ (λ q. unread_good bytes q g h kept)
     (λ ok.
     let there = handed_good w g bytes fit.0 ok in
-    host-good (image-accepted there.1) (by-host there.1) h fit.1 (on_another bytes fit.0 ok g h kept))
+    host_good (image_accepted there.1) (by-host there.1) h fit.1 (on_another bytes fit.0 ok g h kept))
 step_good Calls.Call.reads w (fit, kept) g = g
 
 -- right after an accepted refresh
@@ -279,9 +279,9 @@ step_right (read_in bytes) w (fit, kept) g k e = not_some e
 step_right (refresh j l) w (fit, kept) g k e =
     let same = accepts_same w.abstract j k (eqb (length (slice l)) 4460) e in
     subst (Right (step ours (refresh j l) w)) same
-    (refreshed-right (λ m. m) (by-value g.1) l (value_lends w j l kept) (value-leaves (by-value g.1) j fit (slice l)) (e ∙ ap some (sym same)))
+    (refreshed_right (λ m. m) (by-value g.1) l (value_lends w j l kept) (value_leaves (by-value g.1) j fit (slice l)) (e ∙ ap some (sym same)))
 step_right (overwrite r x y z t) w (fit, kept) g k e = not_some e
-step_right (host h) w (fit, kept) g k e = host-right (image-accepted g.1) (by-host g.1) h fit (host_keeps g h kept) k e
+step_right (host h) w (fit, kept) g k e = host_right (image_accepted g.1) (by-host g.1) h fit (host_keeps g h kept) k e
 step_right (host_on bytes h) w (fit, kept) g k e = absurd ((kept.image k e).0 tt)
 step_right Calls.Call.reads w (fit, kept) g k e = not_some e
 

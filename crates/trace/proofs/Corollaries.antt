@@ -22,7 +22,7 @@ use Rattle.trace.specs.Step.{accepted_key, ours, step, run}
 use Rattle.trace.specs.Claim.{Admissible}
 use Rattle.trace.proofs.Allowed.{marks_all}
 use Rattle.trace.proofs.Always.{always_right}
-use Rattle.trace.proofs.Exempt.{Hits, only-hit, none_first, marking-ends, host-marking-ends}
+use Rattle.trace.proofs.Exempt.{Hits, only_hit, none_first, marking_ends, host_marking_ends}
 
 -- what begins an admissible list is admissible: the claim, of a list's last call, holds of each of its calls
 pub begins_admissible : (w : World) (calls after : List Call) → Admissible ours w (calls ++ after) → Admissible ours w calls
@@ -57,7 +57,7 @@ none_exempt : (c : Call) (w : World) (σ : Section) → (Hits c w σ → ⊥) �
 none_exempt c w σ none-hits off = go (test ((step ours c w).track.exempt σ))
   where
     go : ((step ours c w).track.exempt σ ≡ true) ⊎ ((step ours c w).track.exempt σ ≡ false) → (step ours c w).track.exempt σ ≡ false
-    go (inl on) = ⊎_elim (λ (e : w.track.exempt σ ≡ true). never (sym e ∙ off)) (λ (h : Hits c w σ). absurd (none-hits h)) (only-hit ours σ c w on)
+    go (inl on) = ⊎_elim (λ (e : w.track.exempt σ ≡ true). never (sym e ∙ off)) (λ (h : Hits c w σ). absurd (none-hits h)) (only_hit ours σ c w on)
     go (inr e) = e
 
 none_exempt_all : (cs : List Call) (w : World) (σ : Section) → NoneOverwrites cs → w.track.exempt σ ≡ false → (run ours cs w).track.exempt σ ≡ false
@@ -97,8 +97,8 @@ MarksAll c = (c ≡ own (mark all_bits)) ⊎ (c ≡ host (operates (mark all_bit
 
 marking_clears : (c : Call) → MarksAll c → (w : World) (σ : Section) → (step ours c w).track.exempt σ ≡ false
 unfolding operation_of is_whole said
-marking_clears c (inl e) w σ = rw e (marking-ends ours σ (mark all_bits) w (marks_all w.abstract σ))
-marking_clears c (inr e) w σ = rw e (host-marking-ends ours σ (mark all_bits) (mark all_bits) w refl (marks_all w.abstract σ))
+marking_clears c (inl e) w σ = rw e (marking_ends ours σ (mark all_bits) w (marks_all w.abstract σ))
+marking_clears c (inr e) w σ = rw e (host_marking_ends ours σ (mark all_bits) (mark all_bits) w refl (marks_all w.abstract σ))
 
 -- "a player that loses its rows must recover without a restart": after any admissible calls, a marking and an accepted refresh
 module _ (m : List Float) (long : length m ≡ 4460) (calls : List Call) (marking c : Call) (k : FfVsKey) (all : MarksAll marking) where
@@ -111,8 +111,8 @@ module _ (m : List Float) (long : length m ≡ 4460) (calls : List Call) (markin
   clear : accepted_key marked c ≡ some k → (σ : Section) → (step ours c marked).track.exempt σ ≡ false
   clear e σ = none_exempt c marked σ (accepted_none c marked k σ e) (marking_clears marking all lost σ)
 
-  pub marking-recovers : Admissible ours (start m) ((calls ++ marking ∷ []) ++ c ∷ []) → accepted_key marked c ≡ some k → (σ : Section) → wrong_rows (step ours c marked) k σ ≡ 0
-  marking-recovers admissible e σ = right σ (clear e σ)
+  pub marking_recovers : Admissible ours (start m) ((calls ++ marking ∷ []) ++ c ∷ []) → accepted_key marked c ≡ some k → (σ : Section) → wrong_rows (step ours c marked) k σ ≡ 0
+  marking_recovers admissible e σ = right σ (clear e σ)
     where
       is : run ours (calls ++ marking ∷ []) (start m) ≡ marked
       is = run_last calls marking (start m)

@@ -38,55 +38,55 @@ module _ (R : Refresher) (σ : Section) where
   abbrev No : World → World → Type 0
   No w v = v.track.exempt σ ≡ true → w.track.exempt σ ≡ true
 
-  operated-no : (o : Option Operation) (w : World) → No w (operated_if o w)
+  operated_no : (o : Option Operation) (w : World) → No w (operated_if o w)
   unfolding operated_if operated track_marked
-  operated-no none w e = e
-  operated-no (some op) w e = (both (w.track.exempt σ) (not (marks w.abstract op σ)) e).0
+  operated_no none w e = e
+  operated_no (some op) w e = (both (w.track.exempt σ) (not (marks w.abstract op σ)) e).0
 
-  refreshed-no : (o : Option FfVsKey) (w : World) → No w (refreshed_if o w)
+  refreshed_no : (o : Option FfVsKey) (w : World) → No w (refreshed_if o w)
   unfolding refreshed_if tracking track_refreshed
-  refreshed-no none w e = e
-  refreshed-no (some k) w e = e
+  refreshed_no none w e = e
+  refreshed_no (some k) w e = e
 
-  leaving-no : {A : Type 0} (l : Lent A) (m : List Float) (w : World) → No w (leaving l m w)
+  leaving_no : {A : Type 0} (l : Lent A) (m : List Float) (w : World) → No w (leaving l m w)
   unfolding leaving tracking with_mirror
-  leaving-no (the_mirror x) m w e = e
-  leaving-no (another x) m w e = e
+  leaving_no (the_mirror x) m w e = e
+  leaving_no (another x) m w e = e
 
-  host-no : (h : HostCall) (w : World) → No w (host_step R h w)
+  host_no : (h : HostCall) (w : World) → No w (host_step R h w)
   unfolding host_step standing
-  host-no (operates h) w e = operated-no (operation_of h) w e
-  host-no (refreshes k l) w e = leaving-no l _ w (refreshed-no _ (leaving l _ w) e)
-  host-no Calls.HostCall.reads w e = e
+  host_no (operates h) w e = operated_no (operation_of h) w e
+  host_no (refreshes k l) w e = leaving_no l _ w (refreshed_no _ (leaving l _ w) e)
+  host_no Calls.HostCall.reads w e = e
 
-  unread-no : (bytes : List ℕ) (h : HostCall) (w : World) → No w (unread R bytes h w)
+  unread_no : (bytes : List ℕ) (h : HostCall) (w : World) → No w (unread R bytes h w)
   unfolding unread
-  unread-no bytes (operates h) w e = e
-  unread-no bytes (refreshes k l) w e = leaving-no l _ w e
-  unread-no bytes Calls.HostCall.reads w e = e
+  unread_no bytes (operates h) w e = e
+  unread_no bytes (refreshes k l) w e = leaving_no l _ w e
+  unread_no bytes Calls.HostCall.reads w e = e
 
-  pub only-hit : (c : Call) (w : World) → (step R c w).track.exempt σ ≡ true → (w.track.exempt σ ≡ true) ⊎ Hits c w σ
+  pub only_hit : (c : Call) (w : World) → (step R c w).track.exempt σ ≡ true → (w.track.exempt σ ≡ true) ⊎ Hits c w σ
   unfolding step standing operated_if image_read track_read_in tracking track_overwritten
-  only-hit (own op) w e = inl (operated-no (some op) w e)
-  only-hit (read_in bytes) w e = inl (branch (No w) (refused bytes) _ _ (λ q x. x) (λ q x. x) e)
-  only-hit (refresh k l) w e = inl (leaving-no l _ w (refreshed-no _ (leaving l _ w) e))
-  only-hit (overwrite r x y z t) w e = either (w.track.exempt σ) (hits r w.track σ) e
-  only-hit (host h) w e = inl (host-no h w e)
-  only-hit (host_on bytes h) w e = inl (branch (No w) (refused bytes) _ _ (λ q x. unread-no bytes h w x) (λ q x. host-no h (handed bytes w) x) e)
-  only-hit Calls.Call.reads w e = inl e
+  only_hit (own op) w e = inl (operated_no (some op) w e)
+  only_hit (read_in bytes) w e = inl (branch (No w) (refused bytes) _ _ (λ q x. x) (λ q x. x) e)
+  only_hit (refresh k l) w e = inl (leaving_no l _ w (refreshed_no _ (leaving l _ w) e))
+  only_hit (overwrite r x y z t) w e = either (w.track.exempt σ) (hits r w.track σ) e
+  only_hit (host h) w e = inl (host_no h w e)
+  only_hit (host_on bytes h) w e = inl (branch (No w) (refused bytes) _ _ (λ q x. unread_no bytes h w x) (λ q x. host_no h (handed bytes w) x) e)
+  only_hit Calls.Call.reads w e = inl e
 
   pub none_first : (m : List Float) → (start m).track.exempt σ ≡ false
   unfolding start fresh_track
   none_first m = refl
 
   -- "its count is zero again from the first accepted refresh after its next marking"
-  pub marking-ends : (op : Operation) (w : World) → marks w.abstract op σ ≡ true → (step R (own op) w).track.exempt σ ≡ false
+  pub marking_ends : (op : Operation) (w : World) → marks w.abstract op σ ≡ true → (step R (own op) w).track.exempt σ ≡ false
   unfolding step standing operated track_marked
-  marking-ends op w e = rw e (and_false (w.track.exempt σ))
+  marking_ends op w e = rw e (and_false (w.track.exempt σ))
 
-  pub host-marking-ends : (h : HostOperation) (op : Operation) (w : World) → operation_of h ≡ some op → marks w.abstract op σ ≡ true → (step R (host (operates h)) w).track.exempt σ ≡ false
+  pub host_marking_ends : (h : HostOperation) (op : Operation) (w : World) → operation_of h ≡ some op → marks w.abstract op σ ≡ true → (step R (host (operates h)) w).track.exempt σ ≡ false
   unfolding step host_step standing operated_if operated track_marked
-  host-marking-ends h op w o e = rw (o, e) (and_false (w.track.exempt σ))
+  host_marking_ends h op w o e = rw (o, e) (and_false (w.track.exempt σ))
 
 -- ---- what an overwriting hits
 

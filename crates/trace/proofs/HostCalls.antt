@@ -34,17 +34,17 @@ module _ (image : List ℕ) (k : FfVsKey) (lent : List ℕ) (ok : refused image 
   code : call_code (ff_refresh_number k lent) 0 image ≡ ff_refresh_number k lent (state_of image)
   code = code_is (ff_refresh_number k lent) 0 image ok ∙ next_zero (ff_refresh_number k lent (state_of image))
 
-  pub host-refresh-code : (ff_refresh image k lent 0).code ≡ ff_refresh_number k lent (state_of image)
+  pub host_refresh_code : (ff_refresh image k lent 0).code ≡ ff_refresh_number k lent (state_of image)
   unfolding ff_refresh
-  host-refresh-code = answered_code (call_code (ff_refresh_number k lent) 0 image) _ _ ∙ code
+  host_refresh_code = answered_code (call_code (ff_refresh_number k lent) 0 image) _ _ ∙ code
 
   -- a refused one leaves the image and the slice that it was lent
-  pub host-refresh-old : (ff_refresh_number k lent (state_of image) ≡ 0 → ⊥) → (ff_refresh image k lent 0).out ≡ left image lent 0
+  pub host_refresh_old : (ff_refresh_number k lent (state_of image) ≡ 0 → ⊥) → (ff_refresh image k lent 0).out ≡ left image lent 0
   unfolding ff_refresh
-  host-refresh-old f = ⊎_elim (λ y. absurd (f (sym code ∙ y.0))) (λ n. n.1) (answered_either (call_code (ff_refresh_number k lent) 0 image) _ _)
+  host_refresh_old f = ⊎_elim (λ y. absurd (f (sym code ∙ y.0))) (λ n. n.1) (answered_either (call_code (ff_refresh_number k lent) 0 image) _ _)
 
-  pub host-refresh-new : ff_refresh_number k lent (state_of image) ≡ 0
+  pub host_refresh_new : ff_refresh_number k lent (state_of image) ≡ 0
       → (ff_refresh image k lent 0).out
       ≡ left (image_bytes (take_ff_vs_dirty (state_of image)).state) (written_bytes sections (take_ff_vs_dirty (state_of image)).bits (state_of image) k lent) (take_ff_vs_dirty (state_of image)).bits
   unfolding ff_refresh
-  host-refresh-new e = ⊎_elim (λ y. y.1) (λ n. absurd (n.0 (code ∙ e))) (answered_either (call_code (ff_refresh_number k lent) 0 image) _ _)
+  host_refresh_new e = ⊎_elim (λ y. y.1) (λ n. absurd (n.0 (code ∙ e))) (answered_either (call_code (ff_refresh_number k lent) 0 image) _ _)

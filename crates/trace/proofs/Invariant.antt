@@ -21,7 +21,7 @@ use Rattle.image.specs.Read.{state_of, read_image}
 use Rattle.image_laws.specs.Exactly.{IsAccepted}
 use Rattle.image_laws.proofs.AcceptedValid.{accepted_valid}
 use Rattle.image_laws.proofs.Exactly.{image-bytes}
-use Rattle.image_laws.proofs.ReadWritten.{read-written}
+use Rattle.image_laws.proofs.ReadWritten.{read_written}
 use Rattle.image_laws.proofs.ValidAccepted.{valid_accepted}
 use Rattle.sections.specs.declared.key.FfVsKey.{FfVsKey}
 use Rattle.d3d9_model.specs.Operations.{Operation}
@@ -31,13 +31,13 @@ use Rattle.agreement.proofs.Marks.{fresh_dirty}
 use Rattle.agreement.proofs.Dirty.{taken_valid, taken_agrees}
 use Rattle.agreement.proofs.Fresh.{fresh_valid, fresh_agrees}
 use Rattle.agreement.proofs.Kept.{valid_kept, agrees_kept}
-use Rattle.image_agreement.proofs.ImageAgrees.{image-agrees}
+use Rattle.image_agreement.proofs.ImageAgrees.{image_agrees}
 use Rattle.refresh.specs.Written.{written}
 use Rattle.refresh.proofs.Holding.{written-length}
 use Rattle.refresh.proofs.Packed.{Ready}
 use Rattle.trace.specs.World.{World, Stored, value, in_image, as_state, as_image, fresh_track, with_mirror, start, standing, tracking, operated, image_read, refreshed_if, row_set, track_marked, track_read_in, track_refreshed, track_overwritten, wrong_rows}
 use Rattle.trace.proofs.Counted.{holds_count}
-use Rattle.trace.proofs.Tracked.{Tracked, dirty, Marked, operation-tracked, image_tracked, overwrite_tracked, refresh-rights, refresh-tracked}
+use Rattle.trace.proofs.Tracked.{Tracked, dirty, Marked, operation_tracked, image_tracked, overwrite_tracked, refresh_rights, refresh_tracked}
 
 -- the state s is what is stored
 abbrev pub Stands : Stored → FfState → Type 0
@@ -64,7 +64,7 @@ as-state (in_image t bytes) s e = sym (read_is t bytes e.0.taken ∙ e.1)
 
 -- a valid state is written as an image that reads as it
 pub writing_stands : (t s : FfState) → Valid s → Stands (in_image t (image_bytes s)) s
-writing_stands t s v = (record { each = image-bytes s; taken = valid_accepted s v }, read-written s v)
+writing_stands t s v = (record { each = image-bytes s; taken = valid_accepted s v }, read_written s v)
 
 as-image : (h : Stored) (t s : FfState) → Valid s → Stands h s → Stands (in_image t (as_image h)) s
 unfolding as_image
@@ -75,8 +75,8 @@ pub by-value : {w : World} {s : FfState} → Invariant w s → Invariant w (as_s
 by-value {w} {s} inv = subst (Invariant w) (as-state w.stored s inv.stands) inv
 
 module _ {w : World} {s : FfState} (inv : Invariant w s) where
-  pub image-accepted : IsAccepted (as_image w.stored)
-  image-accepted = (as-image w.stored s s inv.valid inv.stands).0
+  pub image_accepted : IsAccepted (as_image w.stored)
+  image_accepted = (as-image w.stored s s inv.valid inv.stands).0
 
   pub by-host : Invariant w (state_of (as_image w.stored))
   by-host = subst (Invariant w) (sym (as-image w.stored s s inv.valid inv.stands).1) inv
@@ -95,51 +95,51 @@ unfolding image_read track_read_in
 after_image {w} inv bytes a h st =
     record {
       stands = st;
-      agrees = image-agrees bytes a.taken;
+      agrees = image_agrees bytes a.taken;
       valid = accepted_valid bytes a.each a.taken;
       whole = inv.whole;
       tracked = λ σ. image_tracked (state_of bytes) _ w.track σ;
     }
 
 module _ {w : World} {s : FfState} (inv : Invariant w s) where
-  pub after-operated : (op : Operation) → OperationFits op → (h : Stored) → Stands h (operate s op).state → Invariant (standing h (operated op w)) (operate s op).state
+  pub after_operated : (op : Operation) → OperationFits op → (h : Stored) → Stands h (operate s op).state → Invariant (standing h (operated op w)) (operate s op).state
   unfolding standing operated track_marked
-  after-operated op fit h st =
+  after_operated op fit h st =
       record {
         stands = st;
         agrees = agrees_kept inv.valid inv.agrees op fit;
         valid = valid_kept inv.valid op fit;
         whole = inv.whole;
-        tracked = λ σ. operation-tracked inv.valid inv.agrees op fit w.track σ (inv.tracked σ);
+        tracked = λ σ. operation_tracked inv.valid inv.agrees op fit w.track σ (inv.tracked σ);
       }
 
-  pub after-standing : (h : Stored) → Stands h s → Invariant (standing h w) s
+  pub after_standing : (h : Stored) → Stands h s → Invariant (standing h w) s
   unfolding standing
-  after-standing h st = record { stands = st; agrees = inv.agrees; valid = inv.valid; whole = inv.whole; tracked = inv.tracked }
+  after_standing h st = record { stands = st; agrees = inv.agrees; valid = inv.valid; whole = inv.whole; tracked = inv.tracked }
 
-  row-long : (r : ℕ) (x y z t : Float) (m : List Float) → length (row_set r x y z t m) ≡ length m
+  row_long : (r : ℕ) (x y z t : Float) (m : List Float) → length (row_set r x y z t m) ≡ length m
   unfolding row_set
-  row-long r x y z t m =
+  row_long r x y z t m =
       let a = set m (4 * r) x in
       let b = set a (4 * r + 1) y in
       let d = set b (4 * r + 2) z in
       length-set d (4 * r + 3) t ∙ length-set b (4 * r + 2) z ∙ length-set a (4 * r + 1) y ∙ length-set m (4 * r) x
 
-  pub after-overwrite : (r : ℕ) (x y z t : Float) → Invariant (tracking (track_overwritten r x y z t w.track) w) s
+  pub after_overwrite : (r : ℕ) (x y z t : Float) → Invariant (tracking (track_overwritten r x y z t w.track) w) s
   unfolding tracking track_overwritten
-  after-overwrite r x y z t =
+  after_overwrite r x y z t =
       record {
         stands = inv.stands;
         agrees = inv.agrees;
         valid = inv.valid;
-        whole = row-long r x y z t w.track.mirror ∙ inv.whole;
+        whole = row_long r x y z t w.track.mirror ∙ inv.whole;
         tracked = λ σ. overwrite_tracked s w.abstract w.track r x y z t σ (inv.tracked σ);
       }
 
   -- a refused refresh that was lent the mirror leaves it as it was
-  pub after-left : (m : List Float) → m ≡ w.track.mirror → Invariant (tracking (with_mirror m w.track) w) s
+  pub after_left : (m : List Float) → m ≡ w.track.mirror → Invariant (tracking (with_mirror m w.track) w) s
   unfolding tracking with_mirror
-  after-left m e = subst (λ (x : List Float). Invariant (tracking (with_mirror x w.track) w) s) (sym e) same
+  after_left m e = subst (λ (x : List Float). Invariant (tracking (with_mirror x w.track) w) s) (sym e) same
     where
       same : Invariant (tracking (with_mirror w.track.mirror w.track) w) s
       same = record { stands = inv.stands; agrees = inv.agrees; valid = inv.valid; whole = inv.whole; tracked = inv.tracked }
@@ -152,26 +152,26 @@ module _ {w : World} {s : FfState} (inv : Invariant w s) where
     abbrev refreshed : List Float → World
     refreshed m = standing h (refreshed_if (some k) (tracking (with_mirror m w.track) w))
 
-    refreshed-so : Stands h (take_ff_vs_dirty s).state → Invariant (refreshed after) (take_ff_vs_dirty s).state
+    refreshed_so : Stands h (take_ff_vs_dirty s).state → Invariant (refreshed after) (take_ff_vs_dirty s).state
     unfolding standing refreshed_if tracking with_mirror track_refreshed
-    refreshed-so st =
+    refreshed_so st =
         record {
           stands = st;
           agrees = taken_agrees inv.agrees;
           valid = taken_valid inv.valid;
           whole = written-length ready (dirty_word s) sections w.track.mirror inv.whole;
-          tracked = λ σ. refresh-tracked inv.valid inv.agrees w.track k ready inv.whole kept σ (inv.tracked σ) (take_ff_vs_dirty s).state;
+          tracked = λ σ. refresh_tracked inv.valid inv.agrees w.track k ready inv.whole kept σ (inv.tracked σ) (take_ff_vs_dirty s).state;
         }
 
-    pub after-refresh : (m : List Float) → m ≡ after → Stands h (take_ff_vs_dirty s).state → Invariant (refreshed m) (take_ff_vs_dirty s).state
-    after-refresh m is st = subst (λ (x : List Float). Invariant (refreshed x) (take_ff_vs_dirty s).state) (sym is) (refreshed-so st)
+    pub after_refresh : (m : List Float) → m ≡ after → Stands h (take_ff_vs_dirty s).state → Invariant (refreshed m) (take_ff_vs_dirty s).state
+    after_refresh m is st = subst (λ (x : List Float). Invariant (refreshed x) (take_ff_vs_dirty s).state) (sym is) (refreshed_so st)
 
     -- every section that is not exempt has the count 0
-    pub refresh-right : (m : List Float) → m ≡ after → (σ : Section) → (refreshed m).track.exempt σ ≡ false → wrong_rows (refreshed m) k σ ≡ 0
+    pub refresh_right : (m : List Float) → m ≡ after → (σ : Section) → (refreshed m).track.exempt σ ≡ false → wrong_rows (refreshed m) k σ ≡ 0
     unfolding standing refreshed_if tracking with_mirror track_refreshed
-    refresh-right m is σ off =
+    refresh_right m is σ off =
         ap (λ (x : List Float). wrong_rows (refreshed x) k σ) is
         ∙ ⊎_elim
         (λ (on : w.track.exempt σ ≡ true). never (sym on ∙ off))
         (holds_count after k w.abstract σ)
-        (refresh-rights inv.valid inv.agrees w.track k ready inv.whole kept σ (inv.tracked σ))
+        (refresh_rights inv.valid inv.agrees w.track k ready inv.whole kept σ (inv.tracked σ))

@@ -62,78 +62,78 @@ module _ {M : Type 1} {𝓤 : Ura M} (𝓛 : Logic 𝓤) (mem : Memory → SProp
   abbrev says : (T : Ended) → ((κs : Lfts T.signature.lifetimes) (a : Args T.signature κs) → Res T.signature κs → AtExit T κs → Type 0) → Spec 𝓤 T.signature
   says T P = closing 𝓛 T (λ κs a. record { ghost = Unit {0}; requires = λ g. ⊤ₛ; ensures = λ g r e. ⌜ P κs a r e ⌝ })
 
-  pub lent-fresh-anchored : lent-fresh.spec 𝓛 mem run ≡ says lent-fresh.ended (λ κs a r e. e.0.now ≡ fresh_state)
-  lent-fresh-anchored = refl
+  pub lent_fresh_anchored : lent-fresh.spec 𝓛 mem run ≡ says lent-fresh.ended (λ κs a r e. e.0.now ≡ fresh_state)
+  lent_fresh_anchored = refl
 
-  pub lent-mark-anchored : lent-mark.spec 𝓛 mem run ≡ says lent-mark.ended (λ κs a r e. operates a.0.now (mark a.1.0) r e.0.now)
+  pub lent_mark_anchored : lent-mark.spec 𝓛 mem run ≡ says lent-mark.ended (λ κs a r e. operates a.0.now (mark a.1.0) r e.0.now)
   unfolding operate
-  lent-mark-anchored = refl
+  lent_mark_anchored = refl
 
   -- a take is no operation of a list; it is the take by value
-  pub lent-take-anchored : lent-take.spec 𝓛 mem run ≡ says lent-take.ended (λ κs a r e.
+  pub lent_take_anchored : lent-take.spec 𝓛 mem run ≡ says lent-take.ended (λ κs a r e.
       let t = take_ff_vs_dirty a.0.now in
       ◌≡◌ {A = ℕ × ℕ × FfState} (r, e.1.0.now, e.0.now) (0, t.bits, t.state))
-  lent-take-anchored = refl
+  lent_take_anchored = refl
 
-  pub lent-material-anchored : lent-material.spec 𝓛 mem run ≡ says lent-material.ended (λ κs a r e. operates a.0.now (set_material a.1.0.now) r e.0.now)
+  pub lent_material_anchored : lent-material.spec 𝓛 mem run ≡ says lent-material.ended (λ κs a r e. operates a.0.now (set_material a.1.0.now) r e.0.now)
   unfolding operate
-  lent-material-anchored = refl
+  lent_material_anchored = refl
 
-  pub lent-fog-start-anchored : lent-fog-start.spec 𝓛 mem run ≡ says lent-fog-start.ended (λ κs a r e. operates a.0.now (set_fog_start a.1.0) r e.0.now)
+  pub lent_fog_start_anchored : lent-fog-start.spec 𝓛 mem run ≡ says lent-fog-start.ended (λ κs a r e. operates a.0.now (set_fog_start a.1.0) r e.0.now)
   unfolding operate
-  lent-fog-start-anchored = refl
+  lent_fog_start_anchored = refl
 
-  pub lent-fog-end-anchored : lent-fog-end.spec 𝓛 mem run ≡ says lent-fog-end.ended (λ κs a r e. operates a.0.now (set_fog_end a.1.0) r e.0.now)
+  pub lent_fog_end_anchored : lent-fog-end.spec 𝓛 mem run ≡ says lent-fog-end.ended (λ κs a r e. operates a.0.now (set_fog_end a.1.0) r e.0.now)
   unfolding operate
-  lent-fog-end-anchored = refl
+  lent_fog_end_anchored = refl
 
-  pub lent-fog-density-anchored : lent-fog-density.spec 𝓛 mem run ≡ says lent-fog-density.ended (λ κs a r e. operates a.0.now (set_fog_density a.1.0) r e.0.now)
+  pub lent_fog_density_anchored : lent-fog-density.spec 𝓛 mem run ≡ says lent-fog-density.ended (λ κs a r e. operates a.0.now (set_fog_density a.1.0) r e.0.now)
   unfolding operate
-  lent-fog-density-anchored = refl
+  lent_fog_density_anchored = refl
 
-  pub lent-ambient-anchored : lent-ambient.spec 𝓛 mem run ≡ says lent-ambient.ended (λ κs a r e. operates a.0.now (set_ambient a.1.0) r e.0.now)
+  pub lent_ambient_anchored : lent-ambient.spec 𝓛 mem run ≡ says lent-ambient.ended (λ κs a r e. operates a.0.now (set_ambient a.1.0) r e.0.now)
   unfolding operate
-  lent-ambient-anchored = refl
+  lent_ambient_anchored = refl
 
-  pub lent-texture-mask-anchored : lent-texture-mask.spec 𝓛 mem run ≡ says lent-texture-mask.ended (λ κs a r e. operates a.0.now (set_texture_mask a.1.0) r e.0.now)
+  pub lent_texture_mask_anchored : lent-texture-mask.spec 𝓛 mem run ≡ says lent-texture-mask.ended (λ κs a r e. operates a.0.now (set_texture_mask a.1.0) r e.0.now)
   unfolding operate
-  lent-texture-mask-anchored = refl
+  lent_texture_mask_anchored = refl
 
-  pub lent-set-anchored : lent-set.spec 𝓛 mem run ≡ says lent-set.ended (λ κs a r e. operates a.0.now (set_transform a.1.0 a.1.1.0.now) r e.0.now)
+  pub lent_set_anchored : lent-set.spec 𝓛 mem run ≡ says lent-set.ended (λ κs a r e. operates a.0.now (set_transform a.1.0 a.1.1.0.now) r e.0.now)
   unfolding operate
-  lent-set-anchored = refl
+  lent_set_anchored = refl
 
-  pub lent-multiply-anchored : lent-multiply.spec 𝓛 mem run ≡ says lent-multiply.ended (λ κs a r e. operates a.0.now (multiply_transform a.1.0 a.1.1.0.now) r e.0.now)
+  pub lent_multiply_anchored : lent-multiply.spec 𝓛 mem run ≡ says lent-multiply.ended (λ κs a r e. operates a.0.now (multiply_transform a.1.0 a.1.1.0.now) r e.0.now)
   unfolding operate
-  lent-multiply-anchored = refl
+  lent_multiply_anchored = refl
 
-  pub lent-light-anchored : lent-light.spec 𝓛 mem run ≡ says lent-light.ended (λ κs a r e. operates a.0.now (set_light a.1.0 a.1.1.0.now) r e.0.now)
+  pub lent_light_anchored : lent-light.spec 𝓛 mem run ≡ says lent-light.ended (λ κs a r e. operates a.0.now (set_light a.1.0 a.1.1.0.now) r e.0.now)
   unfolding operate
-  lent-light-anchored = refl
+  lent_light_anchored = refl
 
   -- any number but 0 enables
-  pub lent-enable-anchored : lent-enable.spec 𝓛 mem run ≡ says lent-enable.ended (λ κs a r e. operates a.0.now (enable_light a.1.0 (not (eqb a.1.1.0 0))) r e.0.now)
+  pub lent_enable_anchored : lent-enable.spec 𝓛 mem run ≡ says lent-enable.ended (λ κs a r e. operates a.0.now (enable_light a.1.0 (not (eqb a.1.1.0 0))) r e.0.now)
   unfolding operate
-  lent-enable-anchored = refl
+  lent_enable_anchored = refl
 
-  pub lent-inputs-anchored : lent-inputs.spec 𝓛 mem run ≡ says lent-inputs.ended (λ κs a r e. ◌≡◌ {A = ℕ × ℕ} (r, e.1.0.now) (0, vs_source_light_inputs a.0.now))
-  lent-inputs-anchored = refl
+  pub lent_inputs_anchored : lent-inputs.spec 𝓛 mem run ≡ says lent-inputs.ended (λ κs a r e. ◌≡◌ {A = ℕ × ℕ} (r, e.1.0.now) (0, vs_source_light_inputs a.0.now))
+  lent_inputs_anchored = refl
 
   -- ---- images
 
-  pub lent-read-anchored : lent-read.spec 𝓛 mem run ≡ says lent-read.ended (λ κs a r e.
+  pub lent_read_anchored : lent-read.spec 𝓛 mem run ≡ says lent-read.ended (λ κs a r e.
       let c = read_image a.0.now a.1.0.now in
       ◌≡◌ {A = ℕ × FfState} (r, e.0.now) (read_number c.answer, c.state))
-  lent-read-anchored = refl
+  lent_read_anchored = refl
 
-  pub lent-write-anchored : lent-write.spec 𝓛 mem run ≡ says lent-write.ended (λ κs a r e.
+  pub lent_write_anchored : lent-write.spec 𝓛 mem run ≡ says lent-write.ended (λ κs a r e.
       let c = write_image a.0.now a.1.0.now in
       ◌≡◌ {A = ℕ × List ℕ} (r, e.1.0.now) (write_number c.answer, c.bytes))
-  lent-write-anchored = refl
+  lent_write_anchored = refl
 
   -- ---- the refresh of a step by value, under the key of eight numbers
 
-  pub lent-refresh-anchored : lent-refresh.spec 𝓛 mem run ≡ says lent-refresh.ended (λ κs a r e.
+  pub lent_refresh_anchored : lent-refresh.spec 𝓛 mem run ≡ says lent-refresh.ended (λ κs a r e.
       left r e.0.now e.1.1.1.1.1.1.1.1.1.0.now e.1.1.1.1.1.1.1.1.1.1.0.now ≡ as_lent (ours.by_value a.0.now (key_of a.1.0 a.1.1.0 a.1.1.1.0 a.1.1.1.1.0 a.1.1.1.1.1.0 a.1.1.1.1.1.1.0 a.1.1.1.1.1.1.1.0 a.1.1.1.1.1.1.1.1.0) a.1.1.1.1.1.1.1.1.1.0.now) a.1.1.1.1.1.1.1.1.1.1.0.now)
   unfolding lent_refresh
-  lent-refresh-anchored = refl
+  lent_refresh_anchored = refl

@@ -16,7 +16,7 @@ use Rattle.sections.specs.declared.key.FfVsKey.{FfVsKey}
 use Rattle.packing.specs.Inputs.{Inputs, mask_accepted}
 use Rattle.d3d9_model.specs.State.{AbstractState}
 use Rattle.agreement.specs.Agrees.{Agrees}
-use Rattle.packing_agreement.proofs.Agreement.{inputs-agree}
+use Rattle.packing_agreement.proofs.Agreement.{inputs_agree}
 use Rattle.calls.specs.Answer.{or_next, length_number}
 use Rattle.refresh.specs.Answer.{refresh_answer, refresh_number}
 use Rattle.refresh.specs.Mirror.{refresh_by, refresh_mirror}
@@ -45,21 +45,21 @@ number_accepted HasRhw e = absurd (omega arith)
 number_accepted WrongMask e = absurd (omega arith)
 
 module _ {s : FfState} {a : AbstractState} (v : Valid s) (g : Agrees s a) (k : FfVsKey) where
-  pub answer-number : (n : ℕ) → refresh_number (refresh_answer s k n) ≡ refresh_refusal a k (eqb n 4460)
+  pub answer_number : (n : ℕ) → refresh_number (refresh_answer s k n) ≡ refresh_refusal a k (eqb n 4460)
   unfolding refresh_refusal
-  answer-number n =
+  answer_number n =
       number_is s k n
-      ∙ ap (λ (i : Inputs). cond (eqb n 4460) (cond k.has_rhw 8 (cond (mask_accepted Lights k i) 0 5)) 4) (inputs-agree v g)
+      ∙ ap (λ (i : Inputs). cond (eqb n 4460) (cond k.has_rhw 8 (cond (mask_accepted Lights k i) 0 5)) 4) (inputs_agree v g)
 
   pub refresh-number : (m : List Float) → refresh_number (refresh_mirror s k m).result.answer ≡ refresh_refusal a k (eqb (length m) 4460)
-  refresh-number m = ap refresh_number (answer_is s k m) ∙ answer-number (length m)
+  refresh-number m = ap refresh_number (answer_is s k m) ∙ answer_number (length m)
 
-  pub host-refresh-number : (bytes : List ℕ) → ff_refresh_number k bytes s ≡ refresh_refusal a k (eqb (length bytes) 17_840)
+  pub host_refresh_number : (bytes : List ℕ) → ff_refresh_number k bytes s ≡ refresh_refusal a k (eqb (length bytes) 17_840)
   unfolding ff_refresh_number length_number or_next refresh_refusal
-  host-refresh-number bytes = go (eqb (length bytes) 17_840) refl
+  host_refresh_number bytes = go (eqb (length bytes) 17_840) refl
     where
       go : (t : Bool) → eqb (length bytes) 17_840 ≡ t → ff_refresh_number k bytes s ≡ refresh_refusal a k (eqb (length bytes) 17_840)
-      go true q = rw q (answer-number 4460)
+      go true q = rw q (answer_number 4460)
       go false q = rw q
 
 -- a host's refresh that is accepted was lent 17,840 bytes, and is accepted by value with as many floats

@@ -50,11 +50,11 @@ use Rattle.trace.specs.World.{World, Track, Stored, as_state, fresh_track, with_
 use Rattle.trace.specs.Step.{Refresher, refresh_refusal, accepts, accepted_key, ours, leaving, step, run}
 use Rattle.trace.specs.Claim.{Admits, Admissible, AlwaysRight}
 use Rattle.trace.proofs.Examples.{none_differs}
-use Rattle.trace.proofs.Allowed.{accepted_is, host-accepted-is, refresh-may, host-refresh-may, first_marked, again_marked, set-transform-may}
+use Rattle.trace.proofs.Allowed.{accepted_is, host_accepted_is, refresh_may, host_refresh_may, first_marked, again_marked, set_transform_may}
 use Rattle.trace.proofs.Always.{step_good, always_right}
 use Rattle.trace.proofs.Invariant.{begins}
 use Rattle.refresh_calls.proofs.MirrorBytes.{mirror_long}
-use Rattle.trace.proofs.Steps.{AfterRefresh, refresh_after, host_refresh_after, refresh-mirror, host-refresh-mirror, refresh_stored, own_stored, own_abstract, own_track}
+use Rattle.trace.proofs.Steps.{AfterRefresh, refresh_after, host_refresh_after, refresh-mirror, host_refresh_mirror, refresh_stored, own_stored, own_abstract, own_track}
 use Rattle.trace.proofs.Tracked.{Marked}
 
 abbrev key : FfVsKey
@@ -88,7 +88,7 @@ nans = replicate 4460 nan
 
 first_admissible : (R : Refresher) → Admissible R (start nans) ([] ++ refresh key (the_mirror nans) ∷ [])
 unfolding start fresh_track
-first_admissible R = (refresh-may (start nans) key (omega arith) (omega arith) (omega arith) (first_marked nans key), tt)
+first_admissible R = (refresh_may (start nans) key (omega arith) (omega arith) (omega arith) (first_marked nans key), tt)
 
 pub writes_nothing_refuted : AlwaysRight writes_nothing → ⊥
 unfolding run step slice standing refreshed_if leaving tracking with_mirror track_refreshed start fresh_track accepted_key accepts refresh_refusal mask_accepted differing row_differs count_below alike_at alike abstract_rows abstract_inputs packed_rows fresh_abstract projection_rows transposed column row floats rows_of identity to_bits is_nan
@@ -120,7 +120,7 @@ zeros_bytes i = omega (arith, each_zero 17_840 i)
 zero_admissible : Admissible host_writes_nothing (start (mirror_floats zeros)) ([] ++ zero_call ∷ [])
 unfolding start fresh_track
 zero_admissible =
-    (host-refresh-may (start (mirror_floats zeros)) key (omega arith) (omega arith) (omega arith) (first_marked (mirror_floats zeros) key) zeros zeros_bytes refl, tt)
+    (host_refresh_may (start (mirror_floats zeros)) key (omega arith) (omega arith) (omega arith) (first_marked (mirror_floats zeros) key) zeros zeros_bytes refl, tt)
 
 zeros_differ : differing (mirror_floats zeros) key fresh_abstract Proj ≡ 4
 unfolding differing row_differs count_below alike_at alike abstract_rows abstract_inputs packed_rows fresh_abstract projection_rows transposed column row floats rows_of identity to_bits is_nan float_at list_at little_number of_bits
@@ -130,11 +130,11 @@ pub host_writes_nothing_refuted : AlwaysRight host_writes_nothing → ⊥
 unfolding run start fresh_track slice
 host_writes_nothing_refuted claim =
     let m = mirror_floats zeros in
-    let accepted = host-accepted-is (start m) key (the_mirror zeros) (length-replicate {A = ℕ} 17_840 0) (accepts_key fresh_abstract) in
+    let accepted = host_accepted_is (start m) key (the_mirror zeros) (length-replicate {A = ℕ} 17_840 0) (accepts_key fresh_abstract) in
     let after = host_refresh_after host_writes_nothing (start m) key (the_mirror zeros) accepted in
     let none = claim m (mirror_long zeros) [] zero_call key zero_admissible accepted Proj (after.exempt Proj) in
     let same : differing m key fresh_abstract Proj ≡ 0 =
-    ap (λ (x : List Float). differing x key fresh_abstract Proj) (sym (host-refresh-mirror host_writes_nothing (start m) key zeros))
+    ap (λ (x : List Float). differing x key fresh_abstract Proj) (sym (host_refresh_mirror host_writes_nothing (start m) key zeros))
     ∙ ap (λ (a : AbstractState). differing (step host_writes_nothing zero_call (start m)).track.mirror key a Proj) (sym after.abstract) ∙ none in
     omega (arith, zeros_differ, same)
 
@@ -209,65 +209,65 @@ unfolding operate Transforms.set_transform change_at slot_of placed place_sectio
 only_projection = refl
 
 module _ (m : List Float) (long : length m ≡ 4460) where
-  abbrev firstCall : Call
-  firstCall = refresh key (the_mirror m)
+  abbrev first_call : Call
+  first_call = refresh key (the_mirror m)
 
-  accepted : accepted_key (start m) firstCall ≡ some key
+  accepted : accepted_key (start m) first_call ≡ some key
   unfolding slice
   accepted = accepted_is (start m) key (the_mirror m) long (accepts_key (start m).abstract)
 
-  first-may : Admits (start m) firstCall
+  first_may : Admits (start m) first_call
   unfolding start fresh_track
-  first-may = refresh-may (start m) key (omega arith) (omega arith) (omega arith) (first_marked m key)
+  first_may = refresh_may (start m) key (omega arith) (omega arith) (omega arith) (first_marked m key)
 
   abbrev first : World
-  first = step ours firstCall (start m)
+  first = step ours first_call (start m)
 
   -- the first refresh is ours, so that the mirror then has the fresh projection
-  same_first : step right_first firstCall (start m) ≡ first
+  same_first : step right_first first_call (start m) ≡ first
   unfolding step start as_state fresh_state
   same_first = refl
 
-  abstract-first : first.abstract ≡ fresh_abstract
+  abstract_first : first.abstract ≡ fresh_abstract
   unfolding start
-  abstract-first = (refresh_after ours (start m) key (the_mirror m) accepted).abstract
+  abstract_first = (refresh_after ours (start m) key (the_mirror m) accepted).abstract
 
-  first-right : differing first.track.mirror key fresh_abstract Proj ≡ 0
+  first_right : differing first.track.mirror key fresh_abstract Proj ≡ 0
   unfolding run start fresh_track
-  first-right =
-      subst (λ (a : AbstractState). differing first.track.mirror key a Proj ≡ 0) abstract-first
-      (always_right m long [] firstCall key (first-may, tt) accepted Proj ((refresh_after ours (start m) key (the_mirror m) accepted).exempt Proj))
+  first_right =
+      subst (λ (a : AbstractState). differing first.track.mirror key a Proj ≡ 0) abstract_first
+      (always_right m long [] first_call key (first_may, tt) accepted Proj ((refresh_after ours (start m) key (the_mirror m) accepted).exempt Proj))
 
-  first-long : length first.track.mirror ≡ 4460
-  first-long = (step_good firstCall (start m) first-may (fresh_state, begins m long)).1.whole
+  first_long : length first.track.mirror ≡ 4460
+  first_long = (step_good first_call (start m) first_may (fresh_state, begins m long)).1.whole
 
   abbrev second : World
   second = step right_first (own turning) first
 
-  abbrev lastCall : Call
-  lastCall = refresh key (the_mirror second.track.mirror)
+  abbrev last_call : Call
+  last_call = refresh key (the_mirror second.track.mirror)
 
-  second-mirror : second.track.mirror ≡ first.track.mirror
+  second_mirror : second.track.mirror ≡ first.track.mirror
   unfolding track_marked
-  second-mirror = ap (λ (t : Track). t.mirror) (own_track right_first first turning)
+  second_mirror = ap (λ (t : Track). t.mirror) (own_track right_first first turning)
 
-  second-abstract : second.abstract ≡ turned_abstract
-  second-abstract = own_abstract right_first first turning ∙ ap (λ (a : AbstractState). abstract_step a turning) abstract-first
+  second_abstract : second.abstract ≡ turned_abstract
+  second_abstract = own_abstract right_first first turning ∙ ap (λ (a : AbstractState). abstract_step a turning) abstract_first
 
-  second-marked : Marked second.track key
+  second_marked : Marked second.track key
   unfolding track_marked
-  second-marked =
+  second_marked =
       let was = refresh_after ours (start m) key (the_mirror m) accepted in
       subst (λ (t : Track). Marked t key) (sym (own_track right_first first turning))
       (again_marked (track_marked (marks first.abstract turning) first.track) key key was.last
       (record { lighting_enabled = refl; specular_enable = refl; vertex_blend_indexed = refl; preview = refl; light-active-mask = refl; fog_mode = refl; vertex_blend_count = refl })
       (λ σ. ap (λ (t : Bool). t && not (marks first.abstract turning σ)) (was.needs σ)))
 
-  last-admissible : Admissible right_first (start m) ((firstCall ∷ own turning ∷ []) ++ lastCall ∷ [])
-  last-admissible = (
-    first-may,
-    subst (λ (w : World). Admits w (own turning) × (Admits (step right_first (own turning) w) lastCall × Unit {0})) (sym same_first)
-        (set-transform-may first 3 turned turned_fits, (refresh-may second key (omega arith) (omega arith) (omega arith) second-marked, tt)),
+  last_admissible : Admissible right_first (start m) ((first_call ∷ own turning ∷ []) ++ last_call ∷ [])
+  last_admissible = (
+    first_may,
+    subst (λ (w : World). Admits w (own turning) × (Admits (step right_first (own turning) w) last_call × Unit {0})) (sym same_first)
+        (set_transform_may first 3 turned turned_fits, (refresh_may second key (omega arith) (omega arith) (omega arith) second_marked, tt)),
   )
 
   -- the second time not all is dirty
@@ -275,53 +275,53 @@ module _ (m : List Float) (long : length m ≡ 4460) where
   unfolding refresh_answer mask_accepted
   first-answer = rw (eq-eqb (length m) 4460 long)
 
-  first-state : as_state first.stored ≡ (take_ff_vs_dirty fresh_state).state
+  first_state : as_state first.stored ≡ (take_ff_vs_dirty fresh_state).state
   unfolding as_state start slice
-  first-state =
+  first_state =
       ap as_state (refresh_stored ours (start m) key (the_mirror m))
       ∙ ap (λ (o : RefreshOutcome). o.result.state) (Laws.accepted_is fresh_state key m (omega arith) fresh_valid.palette_length fresh_valid.texture_length first-answer)
 
-  second-dirty : eqb (dirty_word (as_state second.stored)) all_bits ≡ false
+  second_dirty : eqb (dirty_word (as_state second.stored)) all_bits ≡ false
   unfolding as_state
-  second-dirty =
+  second_dirty =
       ap (λ (h : Stored). eqb (dirty_word (as_state h)) all_bits) (own_stored right_first first turning)
-      ∙ ap (λ (s : FfState). eqb (dirty_word (operate s turning).state) all_bits) first-state
+      ∙ ap (λ (s : FfState). eqb (dirty_word (operate s turning).state) all_bits) first_state
       ∙ only_projection
 
-  last-accepted : accepted_key second lastCall ≡ some key
+  last_accepted : accepted_key second last_call ≡ some key
   unfolding slice
-  last-accepted = accepted_is second key (the_mirror second.track.mirror) (ap length second-mirror ∙ first-long) (accepts_key second.abstract)
+  last_accepted = accepted_is second key (the_mirror second.track.mirror) (ap length second_mirror ∙ first_long) (accepts_key second.abstract)
 
-  last-mirror : (step right_first lastCall second).track.mirror ≡ first.track.mirror
-  last-mirror = refresh-mirror right_first second key second.track.mirror ∙ rw second-dirty second-mirror
+  last_mirror : (step right_first last_call second).track.mirror ≡ first.track.mirror
+  last_mirror = refresh-mirror right_first second key second.track.mirror ∙ rw second_dirty second_mirror
 
-  abbrev last-after : AfterRefresh second (step right_first lastCall second) key
-  last-after = refresh_after right_first second key (the_mirror second.track.mirror) last-accepted
+  abbrev last_after : AfterRefresh second (step right_first last_call second) key
+  last_after = refresh_after right_first second key (the_mirror second.track.mirror) last_accepted
 
-  there : run right_first (firstCall ∷ own turning ∷ []) (start m) ≡ second
+  there : run right_first (first_call ∷ own turning ∷ []) (start m) ≡ second
   unfolding run
   there = ap (step right_first (own turning)) same_first
 
-  last-exempt : (step right_first lastCall second).track.exempt Proj ≡ false
+  last_exempt : (step right_first last_call second).track.exempt Proj ≡ false
   unfolding track_marked start fresh_track
-  last-exempt =
-      last-after.exempt Proj
+  last_exempt =
+      last_after.exempt Proj
       ∙ ap (λ (t : Track). t.exempt Proj) (own_track right_first first turning)
       ∙ ap (λ (t : Bool). t && not (marks first.abstract turning Proj)) ((refresh_after ours (start m) key (the_mirror m) accepted).exempt Proj)
 
-  pub right-first-wrong : AlwaysRight right_first → ⊥
-  right-first-wrong claim = not_both first.track.mirror first-right turned_right
+  pub right_first_wrong : AlwaysRight right_first → ⊥
+  right_first_wrong claim = not_both first.track.mirror first_right turned_right
     where
-      last-right : wrong_rows (step right_first lastCall second) key Proj ≡ 0
-      last-right =
-          subst (λ (w : World). accepted_key w lastCall ≡ some key → (step right_first lastCall w).track.exempt Proj ≡ false → wrong_rows (step right_first lastCall w) key Proj ≡ 0) there
-          (λ a e. claim m long (firstCall ∷ own turning ∷ []) lastCall key last-admissible a Proj e) last-accepted last-exempt
+      last_right : wrong_rows (step right_first last_call second) key Proj ≡ 0
+      last_right =
+          subst (λ (w : World). accepted_key w last_call ≡ some key → (step right_first last_call w).track.exempt Proj ≡ false → wrong_rows (step right_first last_call w) key Proj ≡ 0) there
+          (λ a e. claim m long (first_call ∷ own turning ∷ []) last_call key last_admissible a Proj e) last_accepted last_exempt
 
       turned_right : differing first.track.mirror key turned_abstract Proj ≡ 0
       turned_right =
-          subst (λ (x : List Float). differing x key turned_abstract Proj ≡ 0) last-mirror
-          (subst (λ (a : AbstractState). differing (step right_first lastCall second).track.mirror key a Proj ≡ 0)
-          (last-after.abstract ∙ second-abstract) last-right)
+          subst (λ (x : List Float). differing x key turned_abstract Proj ≡ 0) last_mirror
+          (subst (λ (a : AbstractState). differing (step right_first last_call second).track.mirror key a Proj ≡ 0)
+          (last_after.abstract ∙ second_abstract) last_right)
 
 pub right_first_refuted : AlwaysRight right_first → ⊥
-right_first_refuted = right-first-wrong nans refl
+right_first_refuted = right_first_wrong nans refl

@@ -16,7 +16,7 @@ use Rattle.d3d9_types.specs.declared.matrix.D3DMATRIX.{D3DMATRIX}
 use Rattle.words.specs.Bits.{has_bit}
 use Rattle.sections.specs.Sections.{sections, bit_place}
 use Rattle.ff_state.specs.State.{fresh_state}
-use Rattle.sections.proofs.Every.{same-sections}
+use Rattle.sections.proofs.Every.{same_sections}
 use Rattle.sections.specs.declared.sections.Section.{Section}
 use Rattle.sections.specs.declared.sections.Section.TheVariants.{Wv, Proj, Tt}
 use Rattle.sections.specs.Counts.{places, material_count, light_count, palette_matrices, palette_count, texture_count, section_rows}
@@ -33,7 +33,7 @@ use Rattle.trace.specs.Count.{rows_under}
 use Rattle.trace.specs.World.{World, Track, fresh_track, track_marked, is_row, hits, track_overwritten, start, tracking, marks, wrong_rows}
 use Rattle.trace.specs.Step.{refresh_refusal, accepted_key, ours, step, run}
 use Rattle.trace.specs.Claim.{Admits, Admissible}
-use Rattle.trace.proofs.Allowed.{accepted_is, refresh-may, first_marked, again_marked, set-transform-may, set-texture-mask-may, mark-may, overwrite-may}
+use Rattle.trace.proofs.Allowed.{accepted_is, refresh_may, first_marked, again_marked, set_transform_may, set_texture_mask_may, mark_may, overwrite_may}
 use Rattle.trace.proofs.Always.{Good, step_good, always_right}
 use Rattle.trace.proofs.Invariant.{begins}
 use Rattle.trace.proofs.Steps.{refresh_after, own_abstract, own_track}
@@ -62,7 +62,7 @@ key_rows mask σ = section_rows σ key mask
 
 accepts_all : (i : Inputs) (σ : Section) → mask_accepted σ key i ≡ true
 unfolding mask_accepted
-accepts_all i = same-sections (λ σ. mask_accepted σ key i) (λ σ. true) refl
+accepts_all i = same_sections (λ σ. mask_accepted σ key i) (λ σ. true) refl
 
 rows_are : (a : AbstractState) (σ : Section) → rows_under key a σ ≡ key_rows a.texture_mask σ
 unfolding abstract_inputs
@@ -92,18 +92,18 @@ unfolding slice
 accepted w good = accepted_is w key (the_mirror w.track.mirror) good.1.whole (accepts_key false w.abstract)
 
 module _ {w : World} {then mask : ℕ} {letOff : Section → Bool} (f : Facts w then mask letOff) where
-  refresh-admits : Admits w (refreshing w)
-  refresh-admits =
-      refresh-may w key (omega arith) (omega arith) (omega arith)
+  refresh_admits : Admits w (refreshing w)
+  refresh_admits =
+      refresh_may w key (omega arith) (omega arith) (omega arith)
       (again_marked w.track key key f.last
       (record { lighting_enabled = refl; specular_enable = refl; vertex_blend_indexed = refl; preview = refl; light-active-mask = refl; fog_mode = refl; vertex_blend_count = refl })
       f.needs)
 
-  after-refresh : Facts (step ours (refreshing w) w) mask mask letOff
-  after-refresh =
+  after_refresh : Facts (step ours (refreshing w) w) mask mask letOff
+  after_refresh =
       let is = refresh_after ours w key (the_mirror w.track.mirror) (accepted w f.good) in
       record {
-        good = step_good (refreshing w) w refresh-admits f.good;
+        good = step_good (refreshing w) w refresh_admits f.good;
         last = is.last;
         rows = λ σ. is.rows σ ∙ rows_are w.abstract σ ∙ ap (λ (n : ℕ). key_rows n σ) f.now;
         now = ap (λ (a : AbstractState). a.texture_mask) is.abstract ∙ f.now;
@@ -111,10 +111,10 @@ module _ {w : World} {then mask : ℕ} {letOff : Section → Bool} (f : Facts w 
         needs = is.needs;
       }
 
-  after-own : (op : Operation) → Admits w (own op) → (next : ℕ) → (abstract_step w.abstract op).texture_mask ≡ next
+  after_own : (op : Operation) → Admits w (own op) → (next : ℕ) → (abstract_step w.abstract op).texture_mask ≡ next
       → Facts (step ours (own op) w) then next (λ σ. letOff σ && not (marks w.abstract op σ))
   unfolding track_marked
-  after-own op may next q =
+  after_own op may next q =
       let is = own_track ours w op in
       record {
         good = step_good (own op) w may f.good;
@@ -125,18 +125,18 @@ module _ {w : World} {then mask : ℕ} {letOff : Section → Bool} (f : Facts w 
         needs = λ σ. ap (λ (t : Track). t.needs_marking σ) is ∙ ap (λ (e : Bool). e && not (marks w.abstract op σ)) (f.needs σ);
       }
 
-  hit-are : (r : ℕ) (σ : Section) → hits r w.track σ ≡ is_row r σ (key_rows then σ)
-  hit-are r σ = hits_is r w.track σ key f.last ∙ ap (is_row r σ) (f.rows σ)
+  hit_are : (r : ℕ) (σ : Section) → hits r w.track σ ≡ is_row r σ (key_rows then σ)
+  hit_are r σ = hits_is r w.track σ key f.last ∙ ap (is_row r σ) (f.rows σ)
 
-  after-overwrite : (r : ℕ) (x y z t : Float) → Facts (step ours (overwrite r x y z t) w) then mask (λ σ. letOff σ || is_row r σ (key_rows then σ))
+  after_overwrite : (r : ℕ) (x y z t : Float) → Facts (step ours (overwrite r x y z t) w) then mask (λ σ. letOff σ || is_row r σ (key_rows then σ))
   unfolding step tracking track_overwritten
-  after-overwrite r x y z t =
+  after_overwrite r x y z t =
       record {
-        good = step_good (overwrite r x y z t) w (overwrite-may w r x y z t) f.good;
+        good = step_good (overwrite r x y z t) w (overwrite_may w r x y z t) f.good;
         last = f.last;
         rows = f.rows;
         now = f.now;
-        exempt = λ σ. ap (λ (e : Bool). e || hits r w.track σ) (f.exempt σ) ∙ ap (λ (h : Bool). letOff σ || h) (hit-are r σ);
+        exempt = λ σ. ap (λ (e : Bool). e || hits r w.track σ) (f.exempt σ) ∙ ap (λ (h : Bool). letOff σ || h) (hit_are r σ);
         needs = f.needs;
       }
 
@@ -157,19 +157,19 @@ is_proj σ = eqb (bit_place σ) (bit_place Proj)
 
 row_4_is : (σ : Section) → is_row 4 σ (key_rows 0 σ) ≡ is_proj σ
 unfolding is_row material_count light_count palette_count palette_matrices texture_count places count_leading_zeros
-row_4_is = same-sections (λ σ. is_row 4 σ (key_rows 0 σ)) is_proj refl
+row_4_is = same_sections (λ σ. is_row 4 σ (key_rows 0 σ)) is_proj refl
 
 -- bit 2 is PROJ's
 marked_again : (a : AbstractState) (σ : Section) → (is_row 4 σ (key_rows 0 σ) && not (marks a (mark 2) σ)) ≡ false
 unfolding is_row material_count light_count palette_count palette_matrices texture_count places count_leading_zeros marks abstract_refusal marks_section has_bit
-marked_again a = same-sections _ (λ σ. false) refl
+marked_again a = same_sections _ (λ σ. false) refl
 
 -- ---- the list
 
 module _ (m : List Float) (long : length m ≡ 4460) where
-  first-admits : Admits (start m) (refreshing (start m))
+  first_admits : Admits (start m) (refreshing (start m))
   unfolding start fresh_track
-  first-admits = refresh-may (start m) key (omega arith) (omega arith) (omega arith) (first_marked m key)
+  first_admits = refresh_may (start m) key (omega arith) (omega arith) (omega arith) (first_marked m key)
 
   begun : Good (start m)
   begun = (fresh_state, begins m long)
@@ -182,7 +182,7 @@ module _ (m : List Float) (long : length m ≡ 4460) where
   first =
       let is = refresh_after ours (start m) key (the_mirror (start m).track.mirror) (accepted (start m) begun) in
       record {
-        good = step_good (refreshing (start m)) (start m) first-admits begun;
+        good = step_good (refreshing (start m)) (start m) first_admits begun;
         last = is.last;
         rows = λ σ. is.rows σ ∙ rows_are (start m).abstract σ;
         now = ap (λ (a : AbstractState). a.texture_mask) is.abstract;
@@ -196,26 +196,26 @@ module _ (m : List Float) (long : length m ≡ 4460) where
 
     second : Facts w₂ 0 0 (λ σ. false)
     unfolding abstract_step abstract_refusal abstract_change known
-    second = after-own first (set_transform 2 view) (set-transform-may w₁ 2 view fits) 0 first.now
+    second = after_own first (set_transform 2 view) (set_transform_may w₁ 2 view fits) 0 first.now
 
     abbrev w₃ : World
     w₃ = step ours (overwrite 4 x y z t) w₂
 
     third : Facts w₃ 0 0 (λ σ. is_row 4 σ (key_rows 0 σ))
-    third = after-overwrite second 4 x y z t
+    third = after_overwrite second 4 x y z t
 
     abbrev w₄ : World
     w₄ = step ours (refreshing w₃) w₃
 
     fourth : Facts w₄ 0 0 (λ σ. is_row 4 σ (key_rows 0 σ))
-    fourth = after-refresh third
+    fourth = after_refresh third
 
     abbrev w₅ : World
     w₅ = step ours (own (mark 2)) w₄
 
     fifth : Facts w₅ 0 0 (λ σ. is_row 4 σ (key_rows 0 σ) && not (marks w₄.abstract (mark 2) σ))
     unfolding abstract_step abstract_refusal abstract_change
-    fifth = after-own fourth (mark 2) (mark-may w₄ 2) 0 fourth.now
+    fifth = after_own fourth (mark 2) (mark_may w₄ 2) 0 fourth.now
 
     abbrev w₆ : World
     w₆ = step ours (refreshing w₅) w₅
@@ -225,20 +225,20 @@ module _ (m : List Float) (long : length m ≡ 4460) where
 
     pub admissible : Admissible ours (start m) (calls ++ refreshing w₅ ∷ [])
     admissible = (
-      first-admits,
-      (set-transform-may w₁ 2 view fits, (overwrite-may w₂ 4 x y z t, (refresh-admits third, (mark-may w₄ 2, (refresh-admits fifth, tt))))),
+      first_admits,
+      (set_transform_may w₁ 2 view fits, (overwrite_may w₂ 4 x y z t, (refresh_admits third, (mark_may w₄ 2, (refresh_admits fifth, tt))))),
     )
 
     -- behind the second refresh PROJ is let off and no other section
-    pub let-off : (σ : Section) → w₄.track.exempt σ ≡ is_proj σ
-    let-off σ = fourth.exempt σ ∙ row_4_is σ
+    pub let_off : (σ : Section) → w₄.track.exempt σ ≡ is_proj σ
+    let_off σ = fourth.exempt σ ∙ row_4_is σ
 
-    pub others-right : (σ : Section) → is_proj σ ≡ false → wrong_rows w₄ key σ ≡ 0
+    pub others_right : (σ : Section) → is_proj σ ≡ false → wrong_rows w₄ key σ ≡ 0
     unfolding run
-    others-right σ e =
+    others_right σ e =
         always_right m long (refreshing (start m) ∷ own (set_transform 2 view) ∷ overwrite 4 x y z t ∷ []) (refreshing w₃) key
-        (first-admits, (set-transform-may w₁ 2 view fits, (overwrite-may w₂ 4 x y z t, (refresh-admits third, tt))))
-        (accepted w₃ third.good) σ (let-off σ ∙ e)
+        (first_admits, (set_transform_may w₁ 2 view fits, (overwrite_may w₂ 4 x y z t, (refresh_admits third, tt))))
+        (accepted w₃ third.good) σ (let_off σ ∙ e)
 
     -- and behind the third, with PROJ marked, every section is right
     pub all_right : (σ : Section) → wrong_rows w₆ key σ ≡ 0
@@ -252,9 +252,9 @@ module _ (m : List Float) (long : length m ≡ 4460) where
   abbrev u₂ : World
   u₂ = step ours (own (set_texture_mask 5)) w₁
 
-  mask-5 : Facts u₂ 0 5 (λ σ. false)
+  mask_5 : Facts u₂ 0 5 (λ σ. false)
   unfolding abstract_step abstract_refusal abstract_change
-  mask-5 = after-own first (set_texture_mask 5) (set-texture-mask-may w₁ 5 (omega arith)) 5 refl
+  mask_5 = after_own first (set_texture_mask 5) (set_texture_mask_may w₁ 5 (omega arith)) 5 refl
 
   abbrev u₃ : World
   u₃ = step ours (refreshing u₂) u₂
@@ -262,23 +262,23 @@ module _ (m : List Float) (long : length m ≡ 4460) where
   abbrev u₄ : World
   u₄ = step ours (own (set_texture_mask 0x80)) u₃
 
-  mask-128 : Facts u₄ 5 0x80 (λ σ. false)
+  mask_128 : Facts u₄ 5 0x80 (λ σ. false)
   unfolding abstract_step abstract_refusal abstract_change
-  mask-128 = after-own (after-refresh mask-5) (set_texture_mask 0x80) (set-texture-mask-may u₃ 0x80 (omega arith)) 0x80 refl
+  mask_128 = after_own (after_refresh mask_5) (set_texture_mask 0x80) (set_texture_mask_may u₃ 0x80 (omega arith)) 0x80 refl
 
   -- row 74 was TT's at the refresh, row 75 was not, though it is under the mask that the book has now
-  pub last-mask-hits : (r : ℕ) (x y z t : Float) → (step ours (overwrite r x y z t) u₄).track.exempt Tt ≡ is_row r Tt 12
+  pub last_mask_hits : (r : ℕ) (x y z t : Float) → (step ours (overwrite r x y z t) u₄).track.exempt Tt ≡ is_row r Tt 12
   unfolding texture_count places count_leading_zeros
-  last-mask-hits r x y z t = (after-overwrite mask-128 r x y z t).exempt Tt
+  last_mask_hits r x y z t = (after_overwrite mask_128 r x y z t).exempt Tt
 
   -- ---- a refresh under another shape, with nothing marked since the first
 
-  abbrev litCall : Call
-  litCall = refresh (key_of true) (the_mirror w₁.track.mirror)
+  abbrev lit_call : Call
+  lit_call = refresh (key_of true) (the_mirror w₁.track.mirror)
 
-  pub shape-not-admissible : Admissible ours (start m) (refreshing (start m) ∷ litCall ∷ []) → ⊥
+  pub shape_not_admissible : Admissible ours (start m) (refreshing (start m) ∷ lit_call ∷ []) → ⊥
   unfolding slice
-  shape-not-admissible (may, (lit, end)) =
+  shape_not_admissible (may, (lit, end)) =
       let taken = accepted_is w₁ (key_of true) (the_mirror w₁.track.mirror) first.good.1.whole (accepts_key true w₁.abstract) in
       let is = refresh_after ours (start m) key (the_mirror (start m).track.mirror) (accepted (start m) begun) in
       never (sym (lit.1.shape key (key_of true) is.last taken (λ (e : SameShape key (key_of true)). never (sym e.lighting_enabled)) Wv) ∙ is.marked Wv)

@@ -49,9 +49,9 @@ module _ (R : Refresher) (w : World) (k : FfVsKey) where
   unfolding step slice
   refresh-mirror m = left_there _ m _ _ w
 
-  pub host-refresh-mirror : (m : List ℕ) → (step R (host (refreshes k (the_mirror m))) w).track.mirror ≡ mirror_floats (R.by_host (as_image w.stored) k m 0).out.mirror
+  pub host_refresh_mirror : (m : List ℕ) → (step R (host (refreshes k (the_mirror m))) w).track.mirror ≡ mirror_floats (R.by_host (as_image w.stored) k m 0).out.mirror
   unfolding step host_step slice
-  host-refresh-mirror m = left_there _ m _ _ w
+  host_refresh_mirror m = left_there _ m _ _ w
 
 -- on bytes that are no image too
 pub unread_mirror : (R : Refresher) (bytes : List ℕ) (w : World) (k : FfVsKey) (m : List ℕ) → (unread R bytes (refreshes k (the_mirror m)) w).track.mirror ≡ mirror_floats (R.by_host bytes k m 0).out.mirror

@@ -26,18 +26,18 @@ use Rattle.sections.specs.Key.{SameShape}
 use Rattle.sections.specs.Sections.{first_row}
 use Rattle.sections.specs.declared.key.FfVsKey.{FfVsKey}
 use Rattle.packing.specs.Inputs.{packed_rows}
-use Rattle.packing.proofs.Depends.{same_rows, same_count, shape-rows, shape-count}
+use Rattle.packing.proofs.Depends.{same_rows, same_count, shape_rows, shape_count}
 use Rattle.d3d9_model.specs.State.{AbstractState}
 use Rattle.d3d9_model.specs.Operations.{Operation, abstract_step}
 use Rattle.agreement.specs.Agrees.{Agrees}
 use Rattle.ff_state.specs.Operate.{operate, OperationFits}
 use Rattle.agreement.proofs.Kept.{valid_kept, agrees_kept}
 use Rattle.packing_agreement.specs.Abstract.{abstract_inputs, abstract_rows}
-use Rattle.packing_agreement.proofs.Agreement.{inputs-agree, rows_agree}
+use Rattle.packing_agreement.proofs.Agreement.{inputs_agree, rows_agree}
 use Rattle.refresh.specs.Written.{first_float, written}
 use Rattle.refresh.proofs.Packed.{Ready, rows-length}
 use Rattle.refresh.proofs.Parts.{Holds}
-use Rattle.refresh.proofs.Holding.{every_in, written-off, written_on}
+use Rattle.refresh.proofs.Holding.{every_in, written_off, written_on}
 use Rattle.trace.specs.Count.{rows_under}
 use Rattle.trace.specs.World.{Track, with_mirror, track_marked, track_read_in, track_refreshed, is_row, hits, row_set, track_overwritten, marks}
 use Rattle.trace.proofs.Marks.{Unmarked, left_clean}
@@ -68,19 +68,19 @@ module _ {s : FfState} {a : AbstractState} (v : Valid s) (g : Agrees s a) (op : 
   rows_stay : same_inputs σ s (operate s op).state → (k : FfVsKey) → abstract_rows σ a k ≡ abstract_rows σ (abstract_step a op) k
   unfolding abstract_rows
   rows_stay e k =
-      sym (ap (packed_rows σ k) (inputs-agree v g))
+      sym (ap (packed_rows σ k) (inputs_agree v g))
       ∙ same_rows s (operate s op).state k σ e
-      ∙ ap (packed_rows σ k) (inputs-agree (valid_kept v op fit) (agrees_kept v g op fit))
+      ∙ ap (packed_rows σ k) (inputs_agree (valid_kept v op fit) (agrees_kept v g op fit))
 
-  counts-stay : same_inputs σ s (operate s op).state → (k : FfVsKey) → input_rows σ k (abstract_inputs a) ≡ input_rows σ k (abstract_inputs (abstract_step a op))
-  counts-stay e k =
-      sym (ap (input_rows σ k) (inputs-agree v g))
+  counts_stay : same_inputs σ s (operate s op).state → (k : FfVsKey) → input_rows σ k (abstract_inputs a) ≡ input_rows σ k (abstract_inputs (abstract_step a op))
+  counts_stay e k =
+      sym (ap (input_rows σ k) (inputs_agree v g))
       ∙ same_count s (operate s op).state k σ e
-      ∙ ap (input_rows σ k) (inputs-agree (valid_kept v op fit) (agrees_kept v g op fit))
+      ∙ ap (input_rows σ k) (inputs_agree (valid_kept v op fit) (agrees_kept v g op fit))
 
-  pub operation-tracked : Tracked s a t σ → Tracked (operate s op).state (abstract_step a op) (track_marked (marks a op) t) σ
+  pub operation_tracked : Tracked s a t σ → Tracked (operate s op).state (abstract_step a op) (track_marked (marks a op) t) σ
   unfolding track_marked
-  operation-tracked was = go (test (has_section (dirty_word (operate s op).state) σ))
+  operation_tracked was = go (test (has_section (dirty_word (operate s op).state) σ))
     where
       pass : Unmarked s a op σ → Tracked s a t σ → Tracked (operate s op).state (abstract_step a op) (track_marked (marks a op) t) σ
       pass u (dirty e) = never (sym e ∙ u.clean)
@@ -92,7 +92,7 @@ module _ {s : FfState} {a : AbstractState} (v : Valid s) (g : Agrees s a) (op : 
           (record {
             last = r.last;
             rows = r.rows ∙ ap (λ (x : List Row). length x) e;
-            whole = ap (λ (x : List Row). length x) (sym e) ∙ r.whole ∙ counts-stay u.inputs k;
+            whole = ap (λ (x : List Row). length x) (sym e) ∙ r.whole ∙ counts_stay u.inputs k;
             holds = subst (λ (x : List Row). Holds t.mirror (first_float σ) (floats x)) e r.holds;
           })
 
@@ -122,9 +122,9 @@ module _ (m p : List Float) (r f n : ℕ) (x y z u : Float) (full : length p ≡
   other : (j i : ℕ) → j < length p → i < 4 → 4 * f + j ≡ 4 * r + i → ⊥
   other j i small few e = ⊎_elim (λ (q : r < f). omega (arith, q, e, few)) (λ (q : f + n ≤ r). omega (arith, q, e, full, small)) c
 
-  overwrite-holds : Holds m (4 * f) p → Holds (row_set r x y z u m) (4 * f) p
+  overwrite_holds : Holds m (4 * f) p → Holds (row_set r x y z u m) (4 * f) p
   unfolding row_set
-  overwrite-holds h j small =
+  overwrite_holds h j small =
       let a = set m (4 * r) x in
       let b = set a (4 * r + 1) y in
       let d = set b (4 * r + 2) z in
@@ -154,7 +154,7 @@ overwrite_tracked s a t r x y z u σ (right m k h) = go (test (is_row r σ (t.ro
           rows = h.rows;
           whole = h.whole;
           holds =
-              overwrite-holds t.mirror (abstract_floats σ a k) r (first_row σ) (t.rows_at_last_refresh σ) x y z u
+              overwrite_holds t.mirror (abstract_floats σ a k) r (first_row σ) (t.rows_at_last_refresh σ) x y z u
               (length-floats (abstract_rows σ a k) ∙ ap (λ (n : ℕ). 4 * n) (sym h.rows))
               (missed r σ (t.rows_at_last_refresh σ) q) h.holds;
         })
@@ -170,21 +170,21 @@ module _ {s : FfState} {a : AbstractState} (v : Valid s) (g : Agrees s a) (t : T
   abbrev after : List Float
   after = written sections (dirty_word s) s k t.mirror
 
-  shape-floats : (j : FfVsKey) → SameShape j k → abstract_floats σ a j ≡ abstract_floats σ a k
+  shape_floats : (j : FfVsKey) → SameShape j k → abstract_floats σ a j ≡ abstract_floats σ a k
   unfolding abstract_rows
-  shape-floats j e = ap floats (shape-rows e (abstract_inputs a) σ)
+  shape_floats j e = ap floats (shape_rows e (abstract_inputs a) σ)
 
-  same-holds : (j : FfVsKey) → SameShape j k → has_section (dirty_word s) σ ≡ false → Right a t σ j → Holds after (first_float σ) (abstract_floats σ a k)
-  same-holds j e off r =
+  same_holds : (j : FfVsKey) → SameShape j k → has_section (dirty_word s) σ ≡ false → Right a t σ j → Holds after (first_float σ) (abstract_floats σ a k)
+  same_holds j e off r =
       let full : length (abstract_floats σ a j) ≡ 4 * state_count σ s k =
-      length-floats (abstract_rows σ a j) ∙ ap (λ (n : ℕ). 4 * n) (r.whole ∙ shape-count e σ (abstract_inputs a).texture_mask ∙ sym (ap (input_rows σ k) (inputs-agree v g))) in
-      subst (λ (p : List Float). Holds after (first_float σ) p) (shape-floats j e)
-      (written-off ready (dirty_word s) sections σ off t.mirror (abstract_floats σ a j) long full
+      length-floats (abstract_rows σ a j) ∙ ap (λ (n : ℕ). 4 * n) (r.whole ∙ shape_count e σ (abstract_inputs a).texture_mask ∙ sym (ap (input_rows σ k) (inputs_agree v g))) in
+      subst (λ (p : List Float). Holds after (first_float σ) p) (shape_floats j e)
+      (written_off ready (dirty_word s) sections σ off t.mirror (abstract_floats σ a j) long full
       r.holds)
 
   -- a section is then right, unless it is exempt
-  pub refresh-rights : Tracked s a t σ → (t.exempt σ ≡ true) ⊎ Holds after (first_float σ) (abstract_floats σ a k)
-  refresh-rights was = go (test (has_section (dirty_word s) σ)) was
+  pub refresh_rights : Tracked s a t σ → (t.exempt σ ≡ true) ⊎ Holds after (first_float σ) (abstract_floats σ a k)
+  refresh_rights was = go (test (has_section (dirty_word s) σ)) was
     where
       go : (has_section (dirty_word s) σ ≡ true) ⊎ (has_section (dirty_word s) σ ≡ false) → Tracked s a t σ
           → (t.exempt σ ≡ true) ⊎ Holds after (first_float σ) (abstract_floats σ a k)
@@ -195,7 +195,7 @@ module _ {s : FfState} {a : AbstractState} (v : Valid s) (g : Agrees s a) (t : T
       go (inr off) (hit m e) = inl e
       go (inr off) (right m j r) =
           ⊎_elim
-          (λ (e : SameShape j k). inr (same-holds j e off r))
+          (λ (e : SameShape j k). inr (same_holds j e off r))
           (λ (n : SameShape j k → ⊥). never (sym (kept.shape j r.last n σ) ∙ m))
           (same_shape j k)
 
@@ -204,13 +204,13 @@ module _ {s : FfState} {a : AbstractState} (v : Valid s) (g : Agrees s a) (t : T
       let p = rows-length ready σ in
       let e = ap (λ (x : List Float). length x) (rows_agree v g σ k) in
       let n = length-floats (abstract_rows σ a k) in
-      let q = ap (input_rows σ k) (inputs-agree v g) in
+      let q = ap (input_rows σ k) (inputs_agree v g) in
       omega (arith, p, e, n, q)
 
-  pub refresh-tracked : Tracked s a t σ → (u : FfState) → Tracked u a (track_refreshed k (rows_under k a) (with_mirror after t)) σ
+  pub refresh_tracked : Tracked s a t σ → (u : FfState) → Tracked u a (track_refreshed k (rows_under k a) (with_mirror after t)) σ
   unfolding track_refreshed with_mirror
-  refresh-tracked was u =
+  refresh_tracked was u =
       ⊎_elim
       (λ (e : t.exempt σ ≡ true). hit refl e)
       (λ (e : Holds after (first_float σ) (abstract_floats σ a k)). right refl k (record { last = refl; rows = refl; whole = rows_whole; holds = e }))
-      (refresh-rights was)
+      (refresh_rights was)

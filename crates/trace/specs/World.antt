@@ -96,11 +96,11 @@ is_row r σ n = leb (first_row σ) r && ltb r (first_row σ + n)
 
 -- "An overwriting hits a section if it writes a row that the section had at the last accepted refresh; before the first it hits none."
 unfoldable pub hits : ℕ → Track → Section → Bool
-hits r t σ = hitsUnder t.last_key
+hits r t σ = hits_under t.last_key
   where
-    hitsUnder : Option FfVsKey → Bool
-    hitsUnder none = false
-    hitsUnder (some k) = is_row r σ (t.rows_at_last_refresh σ)
+    hits_under : Option FfVsKey → Bool
+    hits_under none = false
+    hits_under (some k) = is_row r σ (t.rows_at_last_refresh σ)
 
 unfoldable pub row_set : ℕ → Float → Float → Float → Float → List Float → List Float
 row_set r x y z t m = set (set (set (set m (4 * r) x) (4 * r + 1) y) (4 * r + 2) z) (4 * r + 3) t

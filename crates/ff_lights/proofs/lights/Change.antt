@@ -12,7 +12,7 @@ use Rattle.light_table.specs.declared.overflow.Found.{Found}
 use Rattle.ff_state.specs.declared.lights.LightAnswer.TheVariants.{Accepted}
 use Rattle.ff_state.specs.declared.lights.LightChanged.{LightChanged}
 use Rattle.words.proofs.Words.{flag_is}
-use Rattle.ff_state.proofs.Found.{entry-there}
+use Rattle.ff_state.proofs.Found.{entry_there}
 
 -- the code's number of a bool
 pub flag_byte : (on : Bool) → flag on ≡ bool_byte on
@@ -29,12 +29,12 @@ module _ (s : FfState) (i : ℕ) (f : Found) (e : f ≡ found s i) (change : Ove
   pub entry-changed : (d : OverflowLight) → f.stored ≡ true → replace_entry s f.at (change (get_or s.overflow_lights f.at d)) ≡ change_entry s (found s i) change made
   unfolding change_entry
   entry-changed d stored =
-      ap (λ (x : OverflowLight). replace_entry s f.at (change x)) (entry-there s i f e stored d)
+      ap (λ (x : OverflowLight). replace_entry s f.at (change x)) (entry_there s i f e stored d)
       ∙ ap (λ (t : Bool). cond t (replace_entry s f.at (change (stored_entry s f.at))) (insert_entry s f.at made)) (sym stored)
       ∙ ap (λ (g : Found). change_entry s g change made) e
 
-  pub entry-made : f.stored ≡ false → insert_entry s f.at made ≡ change_entry s (found s i) change made
+  pub entry_made : f.stored ≡ false → insert_entry s f.at made ≡ change_entry s (found s i) change made
   unfolding change_entry
-  entry-made absent =
+  entry_made absent =
       ap (λ (t : Bool). cond t (replace_entry s f.at (change (stored_entry s f.at))) (insert_entry s f.at made)) (sym absent)
       ∙ ap (λ (g : Found). change_entry s g change made) e

@@ -45,14 +45,14 @@ odd_times r p =
 -- n * (p * p) is the operand and q * p the root, with p a power of two; m * 2 ^ j is another count
 module _ (n q k m j : ℕ) (near : Near n q) (low : 2 ^ 23 ≤ q) (n46 : 2 ^ 46 ≤ n) (few : m < 2 ^ 24) where
   -- a half square below n is the midpoint's square below the operand, and the same above
-  scaled-below : (a z : ℕ) → a * a < 4 * n → z ≤ a * 2 ^ k → z * z < 4 * (n * (2 ^ k * 2 ^ k))
-  scaled-below a z h l =
+  scaled_below : (a z : ℕ) → a * a < 4 * n → z ≤ a * 2 ^ k → z * z < 4 * (n * (2 ^ k * 2 ^ k))
+  scaled_below a z h l =
       lt_of_le_of_lt (mul-le-mul l l)
       (lt_of_le_of_lt (le_of_eq (square_of_product a (2 ^ k)))
       (lt_of_lt_of_le (mul-lt-mul_of_pos_right h (mul-pos (pow_pos k) (pow_pos k))) (le_of_eq (sym (four n (2 ^ k * 2 ^ k))))))
 
-  scaled-above : (a z : ℕ) → 4 * n < a * a → a * 2 ^ k ≤ z → 4 * (n * (2 ^ k * 2 ^ k)) < z * z
-  scaled-above a z h l =
+  scaled_above : (a z : ℕ) → 4 * n < a * a → a * 2 ^ k ≤ z → 4 * (n * (2 ^ k * 2 ^ k)) < z * z
+  scaled_above a z h l =
       lt_of_le_of_lt (le_of_eq (four n (2 ^ k * 2 ^ k)))
       (lt_of_lt_of_le (mul-lt-mul_of_pos_right h (mul-pos (pow_pos k) (pow_pos k)))
       (le_trans (le_of_eq (sym (square_of_product a (2 ^ k)))) (mul-le-mul l l)))
@@ -60,8 +60,8 @@ module _ (n q k m j : ℕ) (near : Near n q) (low : 2 ^ 23 ≤ q) (n46 : 2 ^ 46 
   own_below : q * q ≤ n → 4 * (q * 2 ^ k * (q * 2 ^ k)) ≤ 4 * (n * (2 ^ k * 2 ^ k))
   own_below h = mul-le-mul_left 4 (le_trans (le_of_eq (square_of_product q (2 ^ k))) (mul-le-mul_right (2 ^ k * 2 ^ k) h))
 
-  own-above : n < q * q → 4 * (n * (2 ^ k * 2 ^ k)) ≤ 4 * (q * 2 ^ k * (q * 2 ^ k))
-  own-above h = mul-le-mul_left 4 (le_trans (mul-le-mul_right (2 ^ k * 2 ^ k) (le_of_lt h)) (le_of_eq (sym (square_of_product q (2 ^ k)))))
+  own_above : n < q * q → 4 * (n * (2 ^ k * 2 ^ k)) ≤ 4 * (q * 2 ^ k * (q * 2 ^ k))
+  own_above h = mul-le-mul_left 4 (le_trans (mul-le-mul_right (2 ^ k * 2 ^ k) (le_of_lt h)) (le_of_eq (sym (square_of_product q (2 ^ k)))))
 
   pub gap_below : m * 2 ^ j < q * 2 ^ k → (m * 2 ^ j + q * 2 ^ k) * (m * 2 ^ j + q * 2 ^ k) < 4 * (n * (2 ^ k * 2 ^ k))
   gap_below h = ⊎_elim down up near
@@ -78,7 +78,7 @@ module _ (n q k m j : ℕ) (near : Near n q) (low : 2 ^ 23 ≤ q) (n46 : 2 ^ 46 
           let big : 2 ^ 23 < q = square_lt {a = 2 ^ 23} {b = q} (omega (arith, x.2)) in
           let below : m * 2 ^ j ≤ r * 2 ^ k = under r e (omega arith) in
           let own : q * 2 ^ k ≡ r * 2 ^ k + 2 ^ k = ap (λ (i : ℕ). i * 2 ^ k) e ∙ suc-mul r (2 ^ k) in
-          scaled-below (2 * r + 1) (m * 2 ^ j + q * 2 ^ k) x.3 (omega (arith, odd_times r (2 ^ k)))
+          scaled_below (2 * r + 1) (m * 2 ^ j + q * 2 ^ k) x.3 (omega (arith, odd_times r (2 ^ k)))
         where
           under : (r : ℕ) → q ≡ suc r → 2 ^ 23 ≤ r → m * 2 ^ j ≤ r * 2 ^ k
           under r e b =
@@ -90,17 +90,17 @@ module _ (n q k m j : ℕ) (near : Near n q) (low : 2 ^ 23 ≤ q) (n46 : 2 ^ 46 
               let c : t.0 ≤ r = omega arith in
               not-le_of_lt g (le_trans (le_of_eq t.1) (mul-le-mul_right (2 ^ k) c))))
 
-  pub gap-above : q * 2 ^ k < m * 2 ^ j → 4 * (n * (2 ^ k * 2 ^ k)) < (m * 2 ^ j + q * 2 ^ k) * (m * 2 ^ j + q * 2 ^ k)
-  gap-above h = ⊎_elim down up near
+  pub gap_above : q * 2 ^ k < m * 2 ^ j → 4 * (n * (2 ^ k * 2 ^ k)) < (m * 2 ^ j + q * 2 ^ k) * (m * 2 ^ j + q * 2 ^ k)
+  gap_above h = ⊎_elim down up near
     where
       down : (q * q ≤ n) × (4 * n < (2 * q + 1) * (2 * q + 1)) → 4 * (n * (2 ^ k * 2 ^ k)) < (m * 2 ^ j + q * 2 ^ k) * (m * 2 ^ j + q * 2 ^ k)
       down x =
           let t = multiple m j k few (le_trans (mul-le-mul_right (2 ^ k) low) (le_of_lt h)) in
           let l : q < t.0 = lt_of_mul-lt-mul_right (2 ^ k) (lt_of_lt_of_le h (le_of_eq t.1)) in
           let c : suc q * 2 ^ k ≤ m * 2 ^ j = le_trans (mul-le-mul_right (2 ^ k) l) (le_of_eq (sym t.1)) in
-          scaled-above (2 * q + 1) (m * 2 ^ j + q * 2 ^ k) x.1 (omega (arith, odd_times q (2 ^ k), suc-mul q (2 ^ k)))
+          scaled_above (2 * q + 1) (m * 2 ^ j + q * 2 ^ k) x.1 (omega (arith, odd_times q (2 ^ k), suc-mul q (2 ^ k)))
 
       up : (r : ℕ) × (q ≡ suc r) × (n < q * q) × ((2 * r + 1) * (2 * r + 1) < 4 * n) → 4 * (n * (2 ^ k * 2 ^ k)) < (m * 2 ^ j + q * 2 ^ k) * (m * 2 ^ j + q * 2 ^ k)
       up x =
           let l : q * 2 ^ k + q * 2 ^ k < m * 2 ^ j + q * 2 ^ k = omega arith in
-          lt_of_le_of_lt (own-above x.2) (lt_of_le_of_lt (le_of_eq (sym (twice_square (q * 2 ^ k)))) (square_mono l))
+          lt_of_le_of_lt (own_above x.2) (lt_of_le_of_lt (le_of_eq (sym (twice_square (q * 2 ^ k)))) (square_mono l))

@@ -1,5 +1,5 @@
 -- What callers may cite of the root. (a) `sqrt_nearest`: it is nearest, by squares. (b) `sqrt_only`: no other f32 value is. (c) `sqrt_exact`: the root of a square is exact.
--- (d) `sqrt-normal`: the root of a finite value above zero is finite and not subnormal. (e) `sqrt_fits`: it is an f32 value. Assumes nothing.
+-- (d) `sqrt_normal`: the root of a finite value above zero is finite and not subnormal. (e) `sqrt_fits`: it is an f32 value. Assumes nothing.
 use Prim.Native.Nat.{ℕ, zero, suc, ◌+◌, ◌-◌, ◌*◌, ◌/◌, ◌%◌, ◌^◌, ◌≤◌, ◌<◌}
 use native.Mathlib.Nat.{le_trans, le_of_eq, le_of_lt, le_antisymm, le_of_suc-le-suc, lt_of_lt_of_le, lt_of_le_of_lt, lt_of_not-le, not-le_of_lt, lt_irrefl, zero-lt-suc, eq-zero-or-pos, zero-mul, zero-div, mul-one, one-mul, mul_assoc, mul_right_comm, mul-pos, mul-le-mul, mul-le-mul_right, mul-le-mul_left, mul-lt-mul_of_pos_right, lt_of_mul-lt-mul_right, add_comm}
 use native.Mathlib.Omega.{arith}
@@ -17,8 +17,8 @@ use lib.Ieee.Positive.{first_pos}
 use mathlib.Core.Bool.{◌&&◌}
 use Rattle.float32.specs.Root.{nearest_root, root_of, sqrt_of, in_units, unsigned, NearestRoot}
 use Rattle.float32.proofs.root.Squares.{nearest_near, nearest_bounds}
-use Rattle.float32.proofs.root.Values.{cut, value_unique, made-fits, root_of_value, root_scaled}
-use Rattle.float32.proofs.root.Gaps.{gap_below, gap-above, square_mono, twice_square}
+use Rattle.float32.proofs.root.Values.{cut, value_unique, made_fits, root_of_value, root_scaled}
+use Rattle.float32.proofs.root.Gaps.{gap_below, gap_above, square_mono, twice_square}
 
 -- ---- a value that fits is a number of at most 24 digits, moved up
 
@@ -181,27 +181,27 @@ module _ (x : Float) (f : T (fits binary32 x)) (u : T (unsigned x)) (p : 0 < in_
   root_value : HasValue (sqrt_of x) false (nearest_root at.n * 2 ^ at.k) (2 ^ 149)
   root_value = rw at.is (odd_sign 25 false (nearest_root at.n) at.k 149)
 
-  root-units : in_units (sqrt_of x) ≡ nearest_root at.n * 2 ^ at.k
-  root-units = units_of_value (sqrt_of x) (nearest_root at.n * 2 ^ at.k) root_value
+  root_units : in_units (sqrt_of x) ≡ nearest_root at.n * 2 ^ at.k
+  root_units = units_of_value (sqrt_of x) (nearest_root at.n * 2 ^ at.k) root_value
 
-  above-zero-fits : T (fits binary32 (sqrt_of x))
-  above-zero-fits = rw at.is (made-fits (nearest_root at.n) at.k bounds.0 bounds.1 at.far)
+  above_zero_fits : T (fits binary32 (sqrt_of x))
+  above_zero_fits = rw at.is (made_fits (nearest_root at.n) at.k bounds.0 bounds.1 at.far)
 
   -- (d)
-  pub sqrt-normal : T (unsigned (sqrt_of x)) × (2 ^ 23 ≤ in_units (sqrt_of x))
-  sqrt-normal = (unsigned_of_value (sqrt_of x) _ root_value, rw root-units (le_trans bounds.0 (le_times (nearest_root at.n) at.k)))
+  pub sqrt_normal : T (unsigned (sqrt_of x)) × (2 ^ 23 ≤ in_units (sqrt_of x))
+  sqrt_normal = (unsigned_of_value (sqrt_of x) _ root_value, rw root_units (le_trans bounds.0 (le_times (nearest_root at.n) at.k)))
 
-  above-zero-nearest : NearestRoot x (sqrt_of x)
-  above-zero-nearest =
+  above_zero_nearest : NearestRoot x (sqrt_of x)
+  above_zero_nearest =
       record {
         below = λ z g v l.
             let t = shape z g v in
-            rw (at.square, root-units, t.is)
-            (gap_below at.n (nearest_root at.n) at.k t.m t.j (nearest_near at.n at.n48) bounds.0 at.n46 t.few (rw (root-units, t.is) at l));
+            rw (at.square, root_units, t.is)
+            (gap_below at.n (nearest_root at.n) at.k t.m t.j (nearest_near at.n at.n48) bounds.0 at.n46 t.few (rw (root_units, t.is) at l));
         above = λ z g v l.
             let t = shape z g v in
-            rw (at.square, root-units, t.is)
-            (gap-above at.n (nearest_root at.n) at.k t.m t.j (nearest_near at.n at.n48) bounds.0 at.n46 t.few (rw (root-units, t.is) at l));
+            rw (at.square, root_units, t.is)
+            (gap_above at.n (nearest_root at.n) at.k t.m t.j (nearest_near at.n at.n48) bounds.0 at.n46 t.few (rw (root_units, t.is) at l));
       }
 
 -- ---- a value whose square is the operand is nearest
@@ -225,15 +225,15 @@ zero_or_above nan f u = absurd u
 zero_or_above (inf s) f u = absurd u
 zero_or_above (fin true m e) f u = absurd u
 zero_or_above (fin false zero e) f u = inl (unfold sqrt_of in refl, (shape (fin false zero e) f u).is)
-zero_or_above (fin false (suc m) e) f u = inr (pos-of-eq (eq-zero-or-pos (in_units (fin false (suc m) e))))
+zero_or_above (fin false (suc m) e) f u = inr (pos_of_eq (eq-zero-or-pos (in_units (fin false (suc m) e))))
   where
     count : suc m * up e * 2 ^ 149 ≡ in_units (fin false (suc m) e) * down e
     count = (shape (fin false (suc m) e) f u).value.1
 
-    pos-of-eq : (in_units (fin false (suc m) e) ≡ 0) ⊎ (0 < in_units (fin false (suc m) e)) → 0 < in_units (fin false (suc m) e)
-    pos-of-eq (inl z) =
+    pos_of_eq : (in_units (fin false (suc m) e) ≡ 0) ⊎ (0 < in_units (fin false (suc m) e)) → 0 < in_units (fin false (suc m) e)
+    pos_of_eq (inl z) =
         absurd (lt_irrefl 0 (subst (λ (n : ℕ). 0 < n) (count ∙ ap (λ (n : ℕ). n * down e) z ∙ zero-mul (down e)) (mul-pos (mul-pos (zero-lt-suc m) (up_pos e)) (pow_pos 149))))
-    pos-of-eq (inr h) = h
+    pos_of_eq (inr h) = h
 
 -- ---- the laws, for every operand
 
@@ -248,14 +248,14 @@ sqrt_fits (fin true (suc m) e) f = nan-fits binary32
 sqrt_fits (fin false (suc m) e) f =
     ⊎_elim
     (λ (z : (sqrt_of (fin false (suc m) e) ≡ fin false (suc m) e) × (in_units (fin false (suc m) e) ≡ 0)). subst (λ (y : Float). T (fits binary32 y)) (sym z.0) f)
-    (λ (p : 0 < in_units (fin false (suc m) e)). above-zero-fits (fin false (suc m) e) f tt p)
+    (λ (p : 0 < in_units (fin false (suc m) e)). above_zero_fits (fin false (suc m) e) f tt p)
     (zero_or_above (fin false (suc m) e) f tt)
 
 pub sqrt_unsigned : (x : Float) → T (fits binary32 x) → T (unsigned x) → T (unsigned (sqrt_of x))
 sqrt_unsigned x f u =
     ⊎_elim
     (λ (z : (sqrt_of x ≡ x) × (in_units x ≡ 0)). subst (λ (y : Float). T (unsigned y)) (sym z.0) u)
-    (λ (p : 0 < in_units x). (sqrt-normal x f u p).0)
+    (λ (p : 0 < in_units x). (sqrt_normal x f u p).0)
     (zero_or_above x f u)
 
 -- (a)
@@ -263,7 +263,7 @@ pub sqrt_nearest : (x : Float) → T (fits binary32 x) → T (unsigned x) → Ne
 sqrt_nearest x f u =
     ⊎_elim
     (λ (z : (sqrt_of x ≡ x) × (in_units x ≡ 0)). subst (λ (y : Float). NearestRoot x y) (sym z.0) (square_nearest x x (at_zero z.1)))
-    (λ (p : 0 < in_units x). above-zero-nearest x f u p)
+    (λ (p : 0 < in_units x). above_zero_nearest x f u p)
     (zero_or_above x f u)
   where
     at_zero : in_units x ≡ 0 → in_units x * 2 ^ 149 ≡ in_units x * in_units x

@@ -1,4 +1,4 @@
--- The three steps give `sqrt_of`: an answer of the first is the root (`sorted`), and what the second finds has the root of `root_of`, so that the third rounds it alike (`exact-rounded`).
+-- The three steps give `sqrt_of`: an answer of the first is the root (`sorted`), and what the second finds has the root of `root_of`, so that the third rounds it alike (`exact_rounded`).
 -- Assumes nothing.
 use Prim.Native.Nat.{ℕ, zero, suc, ◌+◌, ◌-◌, ◌*◌, ◌^◌, ◌≤◌, ◌<◌}
 use native.Mathlib.Nat.{le_trans, lt_of_lt_of_le, mul-pos, mul-le-mul}
@@ -51,17 +51,17 @@ module _ (x : Float) (r : Root) (h : Exact x r) where
   whole : r.root ≡ floor_root n
   whole = root_unique is-root (floor-root n short)
 
-  nearest-is : nearest_of r ≡ nearest_root n
+  nearest_is : nearest_of r ≡ nearest_root n
   unfolding nearest_of nearest_root
-  nearest-is =
+  nearest_is =
       let rest : n - r.root * r.root ≡ r.remainder = omega arith in
       rw (← whole, rest)
 
   above : 0 < in_units x
   above = first_pos (in_units x) (2 ^ 149) (rw h.value (mul-pos (lt_of_lt_of_le (pow_pos 46) long) (mul-pos (pow_pos r.exponent) (pow_pos r.exponent))))
 
-  pub exact-rounded : T (fits binary32 x) → T (unsigned x) → rounded_root r ≡ sqrt_of x
+  pub exact_rounded : T (fits binary32 x) → T (unsigned x) → rounded_root r ≡ sqrt_of x
   unfolding rounded_root
-  exact-rounded f u =
-      ap (λ (q : ℕ). odd 25 false q r.exponent 149) nearest-is
+  exact_rounded f u =
+      ap (λ (q : ℕ). odd 25 false q r.exponent 149) nearest_is
       ∙ sym (root_of_value x (in_units x) (shape x f u).value above ∙ ap root_of h.value ∙ root_scaled n r.exponent long short)

@@ -63,8 +63,8 @@ size_moved q k = size_scaled 23 q k
 -- ---- the float with the exponent field k + 1 and the significand r, carried where r is 2 ^ 24
 
 module _ (r k : ℕ) (low : 2 ^ 23 ≤ r) (high : r ≤ 2 ^ 24) (far : k ≤ 200) where
-  pub made-fits : T (fits binary32 (odd 25 false r k 149))
-  made-fits =
+  pub made_fits : T (fits binary32 (odd 25 false r k 149))
+  made_fits =
       odd-fits binary32 25 false r k (lt_of_le_of_lt high (lit< tt)) high
       (lt_of_le_of_lt (mul-le-mul_right (2 ^ k) high) (lt_of_le_of_lt (le_of_eq (sym (pow-add 2 24 k))) (lt_of_le_of_lt (pow_mono {i = 24 + k} {j = 224} (omega arith)) (lit< tt))))
 
@@ -87,7 +87,7 @@ module _ (r k : ℕ) (low : 2 ^ 23 ≤ r) (high : r ≤ 2 ^ 24) (far : k ≤ 200
   made =
       let y : Float = odd 25 false r k 149 in
       ap (of_bits binary32) (sym (bits_of_value y (r * 2 ^ k) (odd_sign 25 false r k 149) ∙ made_bits))
-      ∙ of_bits-to_bits binary32 y made-fits
+      ∙ of_bits-to_bits binary32 y made_fits
 
 -- ---- the count, from the bits
 

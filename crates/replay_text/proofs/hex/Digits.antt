@@ -58,8 +58,8 @@ module _ (s : List ℕ) (at : ℕ) (fits : at + 8 ≤ length s) where
   text_at : (i : ℕ) → i < 8 → get_or (take 8 (drop at s)) i 0 ≡ get_or s (at + i) 0
   text_at i h = rw (get_or-take, get_or-drop)
 
-  pub text-more : (i w d : ℕ) → i < 8 → d < 16 → take i (drop at s) ≡ last_digits 16 i w → get_or s (at + i) 0 ≡ hex_digit_ascii d → take (i + 1) (drop at s) ≡ last_digits 16 (i + 1) (w * 16 + d)
-  text-more i w d l h e g =
+  pub text_more : (i w d : ℕ) → i < 8 → d < 16 → take i (drop at s) ≡ last_digits 16 i w → get_or s (at + i) 0 ≡ hex_digit_ascii d → take (i + 1) (drop at s) ≡ last_digits 16 (i + 1) (w * 16 + d)
+  text_more i w d l h e g =
       rw add-one
       (take-suc (drop at s) i 0 (rw length-drop (omega arith)) ∙ rw (get_or-drop, g, e) (sym (digits_more i w d h)))
 

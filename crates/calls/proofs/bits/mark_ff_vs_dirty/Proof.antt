@@ -4,7 +4,7 @@ use mathlib.Core.Path.{refl, sym, ap, ◌∙◌}
 use Rattle.ff_state.specs.Dirty.{mark_ff_vs_dirty, mark_number}
 use Rattle.ff_state.specs.declared.dirty.Marked.{Marked}
 use Rattle.image.specs.Format.{image_bytes}
-use Rattle.calls.proofs.Calls.{image_long, image_fits, changing-nine, changing-own, changing-done}
+use Rattle.calls.proofs.Calls.{image_long, image_fits, changing_nine, changing_own, changing_done}
 use borrow.Author.Rules.{rules}
 use Rattle.calls.proofs.bits.mark_ff_vs_dirty.Statement.{statement}
 use Rattle.calls.proofs.bits.mark_ff_vs_dirty.Tie as tie
@@ -17,7 +17,7 @@ shape_of-image-then-image_refused c = search rules
 
 returns-then-image_refused : tie.Need-returns-then-image_refused
 returns-then-image_refused c =
-    changing-nine _ _ _ (sym c.image_refused.ensures ∙ c.if-image_refused.true)
+    changing_nine _ _ _ (sym c.image_refused.ensures ∙ c.if-image_refused.true)
 
 state_of-s-requires : tie.Need-state_of-s-requires
 state_of-s-requires c κs =
@@ -39,7 +39,7 @@ returns-in_default : tie.Need-returns-in_default
 unfolding mark_number
 returns-in_default c =
     let a = c.args in
-    changing-own _ _ _ (sym c.image_refused.ensures ∙ c.if-image_refused.false)
+    changing_own _ _ _ (sym c.image_refused.ensures ∙ c.if-image_refused.false)
     (ap (λ (m : Marked). mark_number m.answer) (sym (c.mark_ff_vs_dirty-c.ensures ∙ ap (λ s. mark_ff_vs_dirty s a.bits) c.state_of-s.ensures)) ∙ ap mark_number c.in_default.is)
 
 put_state-requires : tie.Need-put_state-requires
@@ -54,7 +54,7 @@ unfolding mark_number
 returns c =
     let a = c.args in
     let marked = c.mark_ff_vs_dirty-c.ensures ∙ ap (λ x. mark_ff_vs_dirty x a.bits) c.state_of-s.ensures in
-    changing-done _ _ _ (sym c.image_refused.ensures ∙ c.if-image_refused.false)
+    changing_done _ _ _ (sym c.image_refused.ensures ∙ c.if-image_refused.false)
     (ap (λ (m : Marked). mark_number m.answer) (sym marked) ∙ ap mark_number c.in-Accepted.is)
     refl
     (c.put_state.ensures ∙ ap (λ (m : Marked). image_bytes m.state) marked)

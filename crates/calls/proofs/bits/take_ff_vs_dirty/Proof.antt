@@ -5,7 +5,7 @@ use Rattle.ff_state.specs.Dirty.{take_ff_vs_dirty}
 use Rattle.ff_state.specs.declared.dirty.Taken.{Taken}
 use Rattle.image.specs.Format.{image_bytes}
 use Rattle.calls.specs.Bits.{image_and_number}
-use Rattle.calls.proofs.Calls.{image_long, image_fits, reading-nine, reading-done}
+use Rattle.calls.proofs.Calls.{image_long, image_fits, reading_nine, reading_done}
 use borrow.Author.Rules.{rules}
 use Rattle.calls.proofs.bits.take_ff_vs_dirty.Statement.{statement}
 use Rattle.calls.proofs.bits.take_ff_vs_dirty.Tie as tie
@@ -18,7 +18,7 @@ shape_of-image-then-image_refused c = search rules
 
 returns-then-image_refused : tie.Need-returns-then-image_refused
 returns-then-image_refused c =
-    reading-nine _ _ _ _ _ (sym c.image_refused.ensures ∙ c.if-image_refused.true)
+    reading_nine _ _ _ _ _ (sym c.image_refused.ensures ∙ c.if-image_refused.true)
 
 state_of-s-requires : tie.Need-state_of-s-requires
 state_of-s-requires c κs =
@@ -37,7 +37,7 @@ shape_of-image c = search rules
 returns : tie.Need-returns
 returns c =
     let taken = c.take_ff_vs_dirty-taken.ensures ∙ ap take_ff_vs_dirty c.state_of-s.ensures in
-    reading-done _ _ _ _ _ (sym c.image_refused.ensures ∙ c.if-image_refused.false) refl refl
+    reading_done _ _ _ _ _ (sym c.image_refused.ensures ∙ c.if-image_refused.false) refl refl
     (ap₂ image_and_number (c.put_state.ensures ∙ ap (λ (t : Taken). image_bytes t.state) taken) (ap (λ (t : Taken). t.bits) taken))
 
 pub take_ff_vs_dirty_spec : {M : Type 1} → statement M

@@ -5,7 +5,7 @@ use Rattle.codec.specs.Material.{material_bytes}
 use Rattle.codec.proofs.Laws.Material.{put-material_bytes}
 use Rattle.ff_state.specs.declared.state.FfState.{FfState}
 use Rattle.calls.proofs.Answers.{length_right, length_wrong}
-use Rattle.calls.proofs.Calls.{image_fits, reading-nine, reading-length, reading-done}
+use Rattle.calls.proofs.Calls.{image_fits, reading_nine, reading-length, reading_done}
 use borrow.Author.Rules.{rules}
 use Rattle.calls.proofs.materials.material.Statement.{statement}
 use Rattle.calls.proofs.materials.material.Tie as tie
@@ -15,7 +15,7 @@ image_refused-requires c κs = search rules
 
 returns-then-image_refused : tie.Need-returns-then-image_refused
 returns-then-image_refused c =
-    reading-nine _ _ _ _ _ (sym c.image_refused.ensures ∙ c.if-image_refused.true)
+    reading_nine _ _ _ _ _ (sym c.image_refused.ensures ∙ c.if-image_refused.true)
 
 returns-then-out-ne-MATERIAL_BYTES : tie.Need-returns-then-out-ne-MATERIAL_BYTES
 returns-then-out-ne-MATERIAL_BYTES c =
@@ -36,7 +36,7 @@ shape_of-out c = search rules
 
 returns : tie.Need-returns
 returns c =
-    reading-done _ _ _ _ _ (sym c.image_refused.ensures ∙ c.if-image_refused.false) refl (length_right 68 _ c.if-out-ne-MATERIAL_BYTES.false)
+    reading_done _ _ _ _ _ (sym c.image_refused.ensures ∙ c.if-image_refused.false) refl (length_right 68 _ c.if-out-ne-MATERIAL_BYTES.false)
     (c.put_material.ensures
     ∙ put-material_bytes _ _ c.if-out-ne-MATERIAL_BYTES.false
     ∙ ap material_bytes (c.material-m.ensures ∙ ap (λ (s : FfState). s.material) c.state_of-s.ensures))

@@ -4,7 +4,7 @@ use mathlib.Core.Path.{refl, sym, ap, ap₂, ◌∙◌}
 use Rattle.ff_state.specs.Material.{set_material}
 use Rattle.image.specs.Format.{image_bytes}
 use Rattle.calls.proofs.Answers.{length_right, length_wrong}
-use Rattle.calls.proofs.Calls.{image_long, image_fits, changing-nine, changing-length, changing-done}
+use Rattle.calls.proofs.Calls.{image_long, image_fits, changing_nine, changing-length, changing_done}
 use borrow.Author.Rules.{rules}
 use Rattle.calls.proofs.materials.set_material.Statement.{statement}
 use Rattle.calls.proofs.materials.set_material.Tie as tie
@@ -17,7 +17,7 @@ shape_of-image-then-image_refused c = search rules
 
 returns-then-image_refused : tie.Need-returns-then-image_refused
 returns-then-image_refused c =
-    changing-nine _ _ _ (sym c.image_refused.ensures ∙ c.if-image_refused.true)
+    changing_nine _ _ _ (sym c.image_refused.ensures ∙ c.if-image_refused.true)
 
 shape_of-image-then-material-ne-MATERIAL_BYTES : tie.Need-shape_of-image-then-material-ne-MATERIAL_BYTES
 shape_of-image-then-material-ne-MATERIAL_BYTES c = search rules
@@ -45,7 +45,7 @@ shape_of-image c = search rules
 
 returns : tie.Need-returns
 returns c =
-    changing-done _ _ _ (sym c.image_refused.ensures ∙ c.if-image_refused.false) refl (length_right 68 _ c.if-material-ne-MATERIAL_BYTES.false)
+    changing_done _ _ _ (sym c.image_refused.ensures ∙ c.if-image_refused.false) refl (length_right 68 _ c.if-material-ne-MATERIAL_BYTES.false)
     (c.put_state.ensures
     ∙ ap image_bytes (c.set_material-t.ensures ∙ ap₂ set_material c.state_of-s.ensures c.material_at.ensures))
 

@@ -2,7 +2,7 @@
 -- Assumes nothing.
 use mathlib.Core.Path.{sym, ◌∙◌}
 use Rattle.ff_state.specs.RenderStates.{set_fog_density}
-use Rattle.calls.proofs.Calls.{image_long, image_fits, changing-nine, setting-done}
+use Rattle.calls.proofs.Calls.{image_long, image_fits, changing_nine, setting_done}
 use borrow.Author.Rules.{rules}
 use Rattle.calls.proofs.render_states.set_fog_density.Statement.{statement}
 use Rattle.calls.proofs.render_states.set_fog_density.Tie as tie
@@ -15,7 +15,7 @@ shape_of-image-then-image_refused c = search rules
 
 returns-then-image_refused : tie.Need-returns-then-image_refused
 returns-then-image_refused c =
-    changing-nine _ _ _ (sym c.image_refused.ensures ∙ c.if-image_refused.true)
+    changing_nine _ _ _ (sym c.image_refused.ensures ∙ c.if-image_refused.true)
 
 state_of-s-requires : tie.Need-state_of-s-requires
 state_of-s-requires c κs =
@@ -36,7 +36,7 @@ shape_of-image c = search rules
 
 returns : tie.Need-returns
 returns c =
-    setting-done set_fog_density _ _ (sym c.image_refused.ensures ∙ c.if-image_refused.false) c.state_of-s.ensures c.of_bits.ensures c.set_fog_density-t.ensures c.put_state.ensures
+    setting_done set_fog_density _ _ (sym c.image_refused.ensures ∙ c.if-image_refused.false) c.state_of-s.ensures c.of_bits.ensures c.set_fog_density-t.ensures c.put_state.ensures
 
 pub set_fog_density_spec : {M : Type 1} → statement M
 set_fog_density_spec =

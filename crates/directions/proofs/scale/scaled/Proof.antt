@@ -7,7 +7,7 @@ use lib.Count.{leading_le}
 use lib.Dec.{T}
 use borrow.Author.Rules.{rules}
 use Rattle.d3d9_types.specs.Vector.{vectorFits}
-use Rattle.directions.proofs.Scaling.{stays-zero, stays-infinite, leading, normal, subnormal}
+use Rattle.directions.proofs.Scaling.{stays_zero, stays_infinite, leading, normal, subnormal}
 use Rattle.directions.proofs.scale.scaled.Statement.{statement}
 use Rattle.directions.proofs.scale.scaled.Tie as tie
 
@@ -23,12 +23,12 @@ value c =
 returns-then-b-eq0 : tie.Need-returns-then-b-eq0
 returns-then-b-eq0 c =
     let at = c.before in
-    stays-zero at.before.args.d (value at) at.largest_bits-b.result at.largest_bits-b.ensures c.if-b-eq0.true
+    stays_zero at.before.args.d (value at) at.largest_bits-b.result at.largest_bits-b.ensures c.if-b-eq0.true
 
 returns-then-b-ge2139095040 : tie.Need-returns-then-b-ge2139095040
 returns-then-b-ge2139095040 c =
     let at = c.before.before in
-    stays-infinite at.before.args.d (value at) at.largest_bits-b.result at.largest_bits-b.ensures (omega (arith, c.if-b-ge2139095040.true))
+    stays_infinite at.before.args.d (value at) at.largest_bits-b.result at.largest_bits-b.ensures (omega (arith, c.if-b-ge2139095040.true))
 
 power_of_two-p-requires : tie.Need-power_of_two-p-requires
 power_of_two-p-requires c κs = search rules

@@ -11,7 +11,7 @@ use Rattle.light_table.specs.declared.entry.OverflowLight.{OverflowLight}
 use Rattle.ff_state.specs.declared.lights.LightRead.TheVariants.{Light}
 use Rattle.lemmas.proofs.Lists.{get_d_default}
 use Rattle.light_table.proofs.LowerBound.{used_most}
-use Rattle.ff_state.proofs.Found.{searched, place-below, entry-there}
+use Rattle.ff_state.proofs.Found.{searched, place_below, entry_there}
 use Rattle.ff_lights.proofs.lights.get_light_at.Statement.{statement}
 use Rattle.ff_lights.proofs.lights.get_light_at.Tie as tie
 
@@ -50,10 +50,10 @@ is_found : (c : tie.After-find-found) → c.find-found.result ≡ found c.before
 is_found c = searched _ _ c.before.used_count.result c.find-found.result c.before.used_count.ensures c.find-found.ensures
 
 offset_bounds-entries-at : tie.Need-offset_bounds-entries-at
-offset_bounds-entries-at c = omega (arith, place-below _ _ c.before.find-found.result (is_found c.before) c.if-found.true)
+offset_bounds-entries-at c = omega (arith, place_below _ _ c.before.find-found.result (is_found c.before) c.if-found.true)
 
 bounds-entries-at : tie.Need-bounds-entries-at
-bounds-entries-at c = place-below _ _ c.before.find-found.result (is_found c.before) c.if-found.true
+bounds-entries-at c = place_below _ _ c.before.find-found.result (is_found c.before) c.if-found.true
 
 returns-then-found : tie.Need-returns-then-found
 unfolding get_light_at
@@ -61,7 +61,7 @@ returns-then-found c =
     let test = c.before.before in
     let at = test.before in
     rw (le-ltb _ 8 at.before.before.before.if-index-lt8.false, ← is_found at, test.if-found.true)
-    (ap (λ (e : OverflowLight). Light e.light) (entry-there _ _ at.find-found.result (is_found at) test.if-found.true _))
+    (ap (λ (e : OverflowLight). Light e.light) (entry_there _ _ at.find-found.result (is_found at) test.if-found.true _))
 
 returns : tie.Need-returns
 unfolding get_light_at

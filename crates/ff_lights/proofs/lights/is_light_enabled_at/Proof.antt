@@ -9,7 +9,7 @@ use borrow.Author.Tests.{lt-ltb, le-ltb}
 use Rattle.ff_state.specs.Lights.{is_light_enabled_at, found}
 use Rattle.light_table.specs.declared.entry.OverflowLight.{OverflowLight}
 use Rattle.light_table.proofs.LowerBound.{used_most}
-use Rattle.ff_state.proofs.Found.{searched, place-below, entry-there}
+use Rattle.ff_state.proofs.Found.{searched, place_below, entry_there}
 use Rattle.ff_lights.proofs.lights.is_light_enabled_at.Statement.{statement}
 use Rattle.ff_lights.proofs.lights.is_light_enabled_at.Tie as tie
 
@@ -30,17 +30,17 @@ is_found : (c : tie.After-find-found) → c.find-found.result ≡ found c.before
 is_found c = searched _ _ c.before.used_count.result c.find-found.result c.before.used_count.ensures c.find-found.ensures
 
 offset_bounds-entries-at : tie.Need-offset_bounds-entries-at
-offset_bounds-entries-at c = omega (arith, place-below _ _ c.before.find-found.result (is_found c.before) c.if-found.true)
+offset_bounds-entries-at c = omega (arith, place_below _ _ c.before.find-found.result (is_found c.before) c.if-found.true)
 
 bounds-entries-at : tie.Need-bounds-entries-at
-bounds-entries-at c = place-below _ _ c.before.find-found.result (is_found c.before) c.if-found.true
+bounds-entries-at c = place_below _ _ c.before.find-found.result (is_found c.before) c.if-found.true
 
 returns-then-found : tie.Need-returns-then-found
 unfolding is_light_enabled_at
 returns-then-found c =
     let f = c.before.find-found.result in
     rw (le-ltb _ 8 c.before.before.before.before.if-index-lt8.false, ← is_found c.before, c.if-found.true)
-    (ap (λ (e : OverflowLight). not (eqb e.enabled 0)) (entry-there _ _ f (is_found c.before) c.if-found.true _))
+    (ap (λ (e : OverflowLight). not (eqb e.enabled 0)) (entry_there _ _ f (is_found c.before) c.if-found.true _))
 
 returns : tie.Need-returns
 unfolding is_light_enabled_at

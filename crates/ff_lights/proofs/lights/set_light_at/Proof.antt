@@ -7,8 +7,8 @@ use borrow.Author.Tests.{lt-ltb, le-ltb}
 use Rattle.light_table.specs.Entry.{light_entry}
 use Rattle.ff_state.specs.Lights.{set_light_at, found}
 use Rattle.light_table.proofs.LowerBound.{used_most}
-use Rattle.ff_state.proofs.Found.{searched, place-most, place-below}
-use Rattle.ff_lights.proofs.lights.Change.{slot_changed, entry-changed, entry-made}
+use Rattle.ff_state.proofs.Found.{searched, place_most, place_below}
+use Rattle.ff_lights.proofs.lights.Change.{slot_changed, entry-changed, entry_made}
 use Rattle.ff_lights.proofs.lights.set_light_at.Statement.{statement}
 use Rattle.ff_lights.proofs.lights.set_light_at.Tie as tie
 
@@ -34,15 +34,15 @@ is_found : (c : tie.After-find-found) → c.find-found.result ≡ found c.before
 is_found c = searched _ _ c.before.used_count.result c.find-found.result c.before.used_count.ensures c.find-found.ensures
 
 offset_bounds-entries-at : tie.Need-offset_bounds-entries-at
-offset_bounds-entries-at c = omega (arith, place-below _ _ c.before.find-found.result (is_found c.before) c.if-found.true)
+offset_bounds-entries-at c = omega (arith, place_below _ _ c.before.find-found.result (is_found c.before) c.if-found.true)
 
 bounds-entries-at : tie.Need-bounds-entries-at
-bounds-entries-at c = place-below _ _ c.before.find-found.result (is_found c.before) c.if-found.true
+bounds-entries-at c = place_below _ _ c.before.find-found.result (is_found c.before) c.if-found.true
 
 replace_entry-requires : tie.Need-replace_entry-requires
 replace_entry-requires c κs =
     let test = c.before in
-    place-below _ _ test.before.find-found.result (is_found test.before) test.if-found.true
+    place_below _ _ test.before.find-found.result (is_found test.before) test.if-found.true
 
 returns-then-found : tie.Need-returns-then-found
 unfolding set_light_at
@@ -54,7 +54,7 @@ returns-then-found c =
     (c.replace_entry.ensures ∙ entry-changed a.s a.index at.find-found.result (is_found at) (λ e. light_entry e.index e.enabled a.light) _ _ test.if-found.true)
 
 insert_entry-requires : tie.Need-insert_entry-requires
-insert_entry-requires c κs = place-most _ _ c.before.find-found.result (is_found c.before)
+insert_entry-requires c κs = place_most _ _ c.before.find-found.result (is_found c.before)
 
 returns : tie.Need-returns
 unfolding set_light_at
@@ -63,7 +63,7 @@ returns c =
     let at = test.before in
     let a = at.before.before.before.before.args in
     rw (le-ltb _ 8 at.before.before.before.if-index-lt8.false)
-    (c.insert_entry.ensures ∙ entry-made a.s a.index at.find-found.result (is_found at) _ (light_entry a.index 0 a.light) test.if-found.false)
+    (c.insert_entry.ensures ∙ entry_made a.s a.index at.find-found.result (is_found at) _ (light_entry a.index 0 a.light) test.if-found.false)
 
 pub set_light_at_spec : {M : Type 1} → statement M
 set_light_at_spec =

@@ -10,8 +10,8 @@ use Rattle.d3d9_types.specs.declared.light.D3DLIGHT9.{D3DLIGHT9}
 use Rattle.light_table.specs.Entry.{light_entry}
 use Rattle.ff_state.specs.Lights.{set_light_enabled_at, insert_entry, found}
 use Rattle.light_table.proofs.LowerBound.{used_most}
-use Rattle.ff_state.proofs.Found.{searched, place-most, place-below}
-use Rattle.ff_lights.proofs.lights.Change.{flag_byte, slot_changed, entry-changed, entry-made}
+use Rattle.ff_state.proofs.Found.{searched, place_most, place_below}
+use Rattle.ff_lights.proofs.lights.Change.{flag_byte, slot_changed, entry-changed, entry_made}
 use Rattle.ff_lights.proofs.lights.set_light_enabled_at.Statement.{statement}
 use Rattle.ff_lights.proofs.lights.set_light_enabled_at.Tie as tie
 
@@ -37,10 +37,10 @@ is_found : (c : tie.After-find-found) → c.find-found.result ≡ found c.before
 is_found c = searched _ _ c.before.used_count.result c.find-found.result c.before.used_count.ensures c.find-found.ensures
 
 offset_bounds-entries-at : tie.Need-offset_bounds-entries-at
-offset_bounds-entries-at c = omega (arith, place-below _ _ c.before.find-found.result (is_found c.before) c.if-found.true)
+offset_bounds-entries-at c = omega (arith, place_below _ _ c.before.find-found.result (is_found c.before) c.if-found.true)
 
 bounds-entries-at : tie.Need-bounds-entries-at
-bounds-entries-at c = place-below _ _ c.before.find-found.result (is_found c.before) c.if-found.true
+bounds-entries-at c = place_below _ _ c.before.find-found.result (is_found c.before) c.if-found.true
 
 overflow_cast-e : tie.Need-overflow_cast-e
 overflow_cast-e c = search rules
@@ -48,7 +48,7 @@ overflow_cast-e c = search rules
 replace_entry-requires : tie.Need-replace_entry-requires
 replace_entry-requires c κs =
     let test = c.before in
-    place-below _ _ test.before.find-found.result (is_found test.before) test.if-found.true
+    place_below _ _ test.before.find-found.result (is_found test.before) test.if-found.true
 
 returns-then-found : tie.Need-returns-then-found
 unfolding set_light_enabled_at
@@ -66,7 +66,7 @@ default_light-requires : tie.Need-default_light-requires
 default_light-requires c κs = search rules
 
 insert_entry-requires : tie.Need-insert_entry-requires
-insert_entry-requires c κs = place-most _ _ c.before.before.find-found.result (is_found c.before.before)
+insert_entry-requires c κs = place_most _ _ c.before.before.find-found.result (is_found c.before.before)
 
 returns : tie.Need-returns
 unfolding set_light_enabled_at
@@ -77,7 +77,7 @@ returns c =
     rw (le-ltb _ 8 at.before.before.before.if-index-lt8.false, flag_byte a.enabled)
     (c.insert_entry.ensures
     ∙ ap (λ (l : D3DLIGHT9). insert_entry a.s at.find-found.result.at (light_entry a.index (bool_byte a.enabled) l)) c.before.default_light.ensures
-    ∙ entry-made a.s a.index at.find-found.result (is_found at) _ (light_entry a.index (bool_byte a.enabled) default_light) test.if-found.false)
+    ∙ entry_made a.s a.index at.find-found.result (is_found at) _ (light_entry a.index (bool_byte a.enabled) default_light) test.if-found.false)
 
 pub set_light_enabled_at_spec : {M : Type 1} → statement M
 set_light_enabled_at_spec =

@@ -1,4 +1,4 @@
--- `float32::root::sqrt` meets its contract: a special operand's answer is its root (`sorted`), and any other's is what the two steps behind find (`exact-rounded`).
+-- `float32::root::sqrt` meets its contract: a special operand's answer is its root (`sorted`), and any other's is what the two steps behind find (`exact_rounded`).
 -- Assumes nothing.
 use mathlib.Core.Path.{sym, subst, ◌∙◌}
 use lib.Dec.{T}
@@ -6,7 +6,7 @@ use lib.Ieee.{Float, binary32, fits}
 use borrow.Author.Rules.{rules}
 use Rattle.float32.specs.Steps.{InRange, Exact}
 use Rattle.float32.specs.declared.root.Operand.TheVariants.{Positive}
-use Rattle.float32.proofs.root.Steps.{Sorted, sorted, exact-rounded}
+use Rattle.float32.proofs.root.Steps.{Sorted, sorted, exact_rounded}
 use Rattle.float32.proofs.root.sqrt.Statement.{statement}
 use Rattle.float32.proofs.root.sqrt.Tie as tie
 
@@ -50,7 +50,7 @@ returns-in-Positive c =
     let p = positive at in
     let r = c.before.root_with_remainder.result in
     c.rounded.ensures
-    ∙ exact-rounded x r (subst (λ (y : Float). Exact y r) p.0 c.before.root_with_remainder.ensures) (value at.before) p.1
+    ∙ exact_rounded x r (subst (λ (y : Float). Exact y r) p.0 c.before.root_with_remainder.ensures) (value at.before) p.1
 
 pub sqrt_spec : {M : Type 1} → statement M
 sqrt_spec =

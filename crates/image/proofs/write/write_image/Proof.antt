@@ -9,7 +9,7 @@ use Rattle.image.specs.Format.{image_table, image_bytes}
 use Rattle.image.specs.Write.{write_outcome, write_image}
 use Rattle.image.specs.declared.write.WriteAnswer.TheVariants.{Written}
 use Rattle.image.proofs.Table.{placed_all}
-use Rattle.image.proofs.Format.{image-tiles}
+use Rattle.image.proofs.Format.{image_tiles}
 use borrow.Author.Rules.{rules}
 use Rattle.image.proofs.write.write_image.Statement.{statement}
 use Rattle.image.proofs.write.write_image.Tie as tie
@@ -78,7 +78,7 @@ returns c =
     rw (eq-eqb (length m) image_length fit)
     (ap (write_outcome Written)
     (rw (c.put_u32.ensures, c.wide8.ensures.0, c.put_states.ensures, c.put_entries.ensures, c.put_u16-2.ensures, c.put_u16.ensures, c.put_u8-4.ensures, c.put_u8-3.ensures, c.put_u8-2.ensures, c.put_u8.ensures, c.put_lights.ensures, c.put_material.ensures, c.put_textures.ensures, c.put_palette.ensures, c.put_matrix-2.ensures, c.put_matrix.ensures)
-    (placed_all image_length (image_table state) m (image-tiles state (record {
+    (placed_all image_length (image_table state) m (image_tiles state (record {
       palette = c.well_formed.0.1.1.1.1.0.1.0.1;
       texture = c.well_formed.0.1.1.1.1.1.1.0.1.0.1;
       lights = c.well_formed.0.1.1.1.1.1.1.1.1.0.1.0.1;

@@ -7,7 +7,7 @@ use lib.Dec.{ltb, lit≤}
 use borrow.Author.Rules.{rules}
 use Rattle.image_reasons.specs.Reasons.{numbers_refused}
 use Rattle.image_reasons.proofs.Either.{here, next}
-use Rattle.image_reasons.proofs.Numbers.{above, not-above, differs, differs-not}
+use Rattle.image_reasons.proofs.Numbers.{above, not_above, differs, differs_not}
 use Rattle.image_reasons.proofs.reasons.numbers_refused.Statement.{statement}
 use Rattle.image_reasons.proofs.reasons.numbers_refused.Tie as tie
 
@@ -26,7 +26,7 @@ returns-then-u8_at-ne0 : tie.Need-returns-then-u8_at-ne0
 unfolding numbers_refused
 returns-then-u8_at-ne0 c =
     let u = c.before.before in
-    next _ _ (not-above _ u.before.u32_at.ensures u.if-u32_at-gt255.false) (here _ _ (differs _ c.before.u8_at.ensures c.if-u8_at-ne0.true))
+    next _ _ (not_above _ u.before.u32_at.ensures u.if-u32_at-gt255.false) (here _ _ (differs _ c.before.u8_at.ensures c.if-u8_at-ne0.true))
 
 u16_at-requires : tie.Need-u16_at-requires
 u16_at-requires c κs =
@@ -38,8 +38,8 @@ unfolding numbers_refused
 returns-then-u16_at-gt255 c =
     let v = c.before.before in
     let u = v.before.before in
-    next _ _ (not-above _ u.before.u32_at.ensures u.if-u32_at-gt255.false)
-    (next _ _ (differs-not _ v.before.u8_at.ensures v.if-u8_at-ne0.false) (here _ _ (above _ c.before.u16_at.ensures c.if-u16_at-gt255.true)))
+    next _ _ (not_above _ u.before.u32_at.ensures u.if-u32_at-gt255.false)
+    (next _ _ (differs_not _ v.before.u8_at.ensures v.if-u8_at-ne0.false) (here _ _ (above _ c.before.u16_at.ensures c.if-u16_at-gt255.true)))
 
 u16_at-requires-2 : tie.Need-u16_at-requires-2
 u16_at-requires-2 c κs =
@@ -52,9 +52,9 @@ returns c =
     let w = c.before in
     let v = w.before.before in
     let u = v.before.before in
-    next _ _ (not-above _ u.before.u32_at.ensures u.if-u32_at-gt255.false)
-    (next _ _ (differs-not _ v.before.u8_at.ensures v.if-u8_at-ne0.false)
-    (next _ _ (not-above _ w.before.u16_at.ensures w.if-u16_at-gt255.false) (ap (λ (n : ℕ). ltb _ n) c.u16_at-2.ensures)))
+    next _ _ (not_above _ u.before.u32_at.ensures u.if-u32_at-gt255.false)
+    (next _ _ (differs_not _ v.before.u8_at.ensures v.if-u8_at-ne0.false)
+    (next _ _ (not_above _ w.before.u16_at.ensures w.if-u16_at-gt255.false) (ap (λ (n : ℕ). ltb _ n) c.u16_at-2.ensures)))
 
 pub numbers_refused_spec : {M : Type 1} → statement M
 numbers_refused_spec =

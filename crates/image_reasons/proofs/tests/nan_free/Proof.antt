@@ -3,7 +3,7 @@
 use Prim.Native.Nat.{◌-◌}
 use native.Mathlib.Omega.{arith}
 use Rattle.image_reasons.specs.Tests.{nan_free, plain_at}
-use Rattle.image_reasons.proofs.Every.{Looked, looks, looked-on, looked-off, looked-all}
+use Rattle.image_reasons.proofs.Every.{Looked, looks, looked_on, looked_off, looked_all}
 use Rattle.image_reasons.proofs.tests.nan_free.Statement.{statement}
 use Rattle.image_reasons.proofs.tests.nan_free.Lts.{then-not-plain_word, else-not-plain_word}
 use Rattle.image_reasons.proofs.tests.nan_free.Tie as tie
@@ -40,13 +40,13 @@ loop-i-preserved c =
     let l = c.before.before.before.before.loop-i in
     let t = c.before.before.before.loop-i-test.true in
     elim c.if-not-plain_word.branch [
-      | then-not-plain_word w ↦ looked-off _ _ l.i t _ _ l.invariant (rw (← c.before.before.u32_at.ensures, ← c.before.plain_word.ensures) w.if-not-plain_word.true) w.all-is
-      | else-not-plain_word w ↦ looked-on _ _ l.i t _ _ l.invariant (rw (← c.before.before.u32_at.ensures, ← c.before.plain_word.ensures) w.if-not-plain_word.false) w.all-is
+      | then-not-plain_word w ↦ looked_off _ _ l.i t _ _ l.invariant (rw (← c.before.before.u32_at.ensures, ← c.before.plain_word.ensures) w.if-not-plain_word.true) w.all-is
+      | else-not-plain_word w ↦ looked_on _ _ l.i t _ _ l.invariant (rw (← c.before.before.u32_at.ensures, ← c.before.plain_word.ensures) w.if-not-plain_word.false) w.all-is
     ]
 
 returns : tie.Need-returns invariant-loop-i decreases-loop-i
 unfolding nan_free
-returns c = looked-all _ _ c.before.loop-i.i _ c.loop-i-test.false c.before.loop-i.invariant
+returns c = looked_all _ _ c.before.loop-i.i _ c.loop-i-test.false c.before.loop-i.invariant
 
 pub nan_free_spec : {M : Type 1} → statement M
 nan_free_spec =

@@ -4,7 +4,7 @@ use Prim.Native.Nat.{◌-◌}
 use native.Mathlib.Omega.{arith}
 use borrow.Author.Tests.{eq-eqb, ne_eqb}
 use Rattle.image_reasons.specs.Tests.{zeros, zero_byte}
-use Rattle.image_reasons.proofs.Every.{Looked, looks, looked-on, looked-off, looked-all}
+use Rattle.image_reasons.proofs.Every.{Looked, looks, looked_on, looked_off, looked_all}
 use Rattle.image_reasons.proofs.tests.zeros_at.Statement.{statement}
 use Rattle.image_reasons.proofs.tests.zeros_at.Lts.{then-s-at-ne0, else-s-at-ne0}
 use Rattle.image_reasons.proofs.tests.zeros_at.Tie as tie
@@ -35,13 +35,13 @@ loop-i-preserved c =
     let l = c.before.before.before.loop-i in
     let t = c.before.before.loop-i-test.true in
     elim c.if-s-at-ne0.branch [
-      | then-s-at-ne0 w ↦ looked-off _ _ l.i t _ _ l.invariant (ne_eqb _ _ w.if-s-at-ne0.true) w.all-is
-      | else-s-at-ne0 w ↦ looked-on _ _ l.i t _ _ l.invariant (eq-eqb _ _ w.if-s-at-ne0.false) w.all-is
+      | then-s-at-ne0 w ↦ looked_off _ _ l.i t _ _ l.invariant (ne_eqb _ _ w.if-s-at-ne0.true) w.all-is
+      | else-s-at-ne0 w ↦ looked_on _ _ l.i t _ _ l.invariant (eq-eqb _ _ w.if-s-at-ne0.false) w.all-is
     ]
 
 returns : tie.Need-returns invariant-loop-i decreases-loop-i
 unfolding zeros
-returns c = looked-all _ _ c.before.loop-i.i _ c.loop-i-test.false c.before.loop-i.invariant
+returns c = looked_all _ _ c.before.loop-i.i _ c.loop-i-test.false c.before.loop-i.invariant
 
 pub zeros_at_spec : {M : Type 1} → statement M
 zeros_at_spec =

@@ -3,7 +3,7 @@
 use mathlib.Core.Path.{refl, sym, ap, ◌∙◌}
 use Rattle.ff_state.specs.Active.{compacted_light_masks}
 use Rattle.light_calls.specs.Lights.{mask_bytes}
-use Rattle.calls.proofs.Calls.{image_fits, reading-nine, reading-done}
+use Rattle.calls.proofs.Calls.{image_fits, reading_nine, reading_done}
 use borrow.Author.Rules.{rules}
 use Rattle.light_calls.proofs.lights.compacted_light_masks.Statement.{statement}
 use Rattle.light_calls.proofs.lights.compacted_light_masks.Tie as tie
@@ -13,7 +13,7 @@ image_refused-requires c κs = search rules
 
 returns-then-image_refused : tie.Need-returns-then-image_refused
 returns-then-image_refused c =
-    reading-nine _ _ _ _ _ (sym c.before.image_refused.ensures ∙ c.if-image_refused.true)
+    reading_nine _ _ _ _ _ (sym c.before.image_refused.ensures ∙ c.if-image_refused.true)
 
 state_of-s-requires : tie.Need-state_of-s-requires
 state_of-s-requires c κs =
@@ -28,7 +28,7 @@ four_bytes-requires c κs = search rules
 returns : tie.Need-returns
 unfolding mask_bytes
 returns c =
-    reading-done _ _ _ _ _ (sym c.before.before.before.before.image_refused.ensures ∙ c.before.before.before.if-image_refused.false) refl refl
+    reading_done _ _ _ _ _ (sym c.before.before.before.before.image_refused.ensures ∙ c.before.before.before.if-image_refused.false) refl refl
     (c.four_bytes.ensures ∙ ap mask_bytes (c.before.compacted_light_masks-masks.ensures ∙ ap compacted_light_masks c.before.before.state_of-s.ensures))
 
 pub compacted_light_masks_spec : {M : Type 1} → statement M

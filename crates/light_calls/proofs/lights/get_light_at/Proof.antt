@@ -6,7 +6,7 @@ use Rattle.codec.proofs.Laws.Light.{put-light_bytes}
 use Rattle.ff_state.specs.Lights.{get_light_at, light_read_number}
 use Rattle.light_calls.specs.Lights.{light_read_light}
 use Rattle.calls.proofs.Answers.{length_right, length_wrong}
-use Rattle.calls.proofs.Calls.{image_fits, reading-nine, reading-own, reading-length, reading-done}
+use Rattle.calls.proofs.Calls.{image_fits, reading_nine, reading_own, reading-length, reading_done}
 use borrow.Author.Rules.{rules}
 use Rattle.light_calls.proofs.lights.get_light_at.Statement.{statement}
 use Rattle.light_calls.proofs.lights.get_light_at.Tie as tie
@@ -16,7 +16,7 @@ image_refused-requires c κs = search rules
 
 returns-then-image_refused : tie.Need-returns-then-image_refused
 returns-then-image_refused c =
-    reading-nine _ _ _ _ _ (sym c.image_refused.ensures ∙ c.if-image_refused.true)
+    reading_nine _ _ _ _ _ (sym c.image_refused.ensures ∙ c.if-image_refused.true)
 
 state_of-s-requires : tie.Need-state_of-s-requires
 state_of-s-requires c κs =
@@ -37,7 +37,7 @@ returns-in_default c =
     let at-image-refused = c in
     let entry = c in
     let a = entry.args in
-    reading-own _ _ _ _ _ (sym at-image-refused.image_refused.ensures ∙ c.if-image_refused.false)
+    reading_own _ _ _ _ _ (sym at-image-refused.image_refused.ensures ∙ c.if-image_refused.false)
     (ap light_read_number (sym (c.get_light_at-read.ensures ∙ ap (λ s. get_light_at s a.index) c.state_of-s.ensures) ∙ c.in_default.is))
 
 returns-then-out-ne-LIGHT_BYTES : tie.Need-returns-then-out-ne-LIGHT_BYTES
@@ -66,7 +66,7 @@ returns c =
     let r = c in
     let t = r in
     let found = sym (r.get_light_at-read.ensures ∙ ap (λ s. get_light_at s a.index) r.state_of-s.ensures) ∙ r.in-Light.is in
-    reading-done _ _ _ _ _ (sym t.image_refused.ensures ∙ t.if-image_refused.false) (ap light_read_number found)
+    reading_done _ _ _ _ _ (sym t.image_refused.ensures ∙ t.if-image_refused.false) (ap light_read_number found)
     (length_right 104 _ c.if-out-ne-LIGHT_BYTES.false)
     (c.put_light.ensures ∙ put-light_bytes _ _ c.if-out-ne-LIGHT_BYTES.false ∙ ap (λ q. light_bytes (light_read_light q)) (sym found))
 

@@ -3,7 +3,7 @@
 use mathlib.Core.Path.{refl, sym, ap, ◌∙◌}
 use Rattle.ff_state.specs.Lights.{is_light_defined_at, flag}
 use Rattle.words.proofs.Words.{flag_is}
-use Rattle.calls.proofs.Calls.{image_fits, reading-nine, reading-done}
+use Rattle.calls.proofs.Calls.{image_fits, reading_nine, reading_done}
 use borrow.Author.Rules.{rules}
 use Rattle.light_calls.proofs.lights.is_light_defined_at.Statement.{statement}
 use Rattle.light_calls.proofs.lights.is_light_defined_at.Tie as tie
@@ -13,7 +13,7 @@ image_refused-requires c κs = search rules
 
 returns-then-image_refused : tie.Need-returns-then-image_refused
 returns-then-image_refused c =
-    reading-nine _ _ _ _ _ (sym c.before.image_refused.ensures ∙ c.if-image_refused.true)
+    reading_nine _ _ _ _ _ (sym c.before.image_refused.ensures ∙ c.if-image_refused.true)
 
 state_of-s-requires : tie.Need-state_of-s-requires
 state_of-s-requires c κs =
@@ -29,7 +29,7 @@ returns : tie.Need-returns
 unfolding flag
 returns c =
     let entry = c.before.before.before.before.before in
-    reading-done _ _ _ _ _ (sym c.before.before.before.image_refused.ensures ∙ c.before.before.if-image_refused.false) refl refl
+    reading_done _ _ _ _ _ (sym c.before.before.before.image_refused.ensures ∙ c.before.before.if-image_refused.false) refl refl
     (flag_is c.is_light_defined_at.result ∙ ap flag (c.is_light_defined_at.ensures ∙ ap (λ s. is_light_defined_at s entry.args.index) c.before.state_of-s.ensures))
 
 pub is_light_defined_at_spec : {M : Type 1} → statement M

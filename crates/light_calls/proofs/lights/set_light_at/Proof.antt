@@ -6,7 +6,7 @@ use Rattle.ff_state.specs.Lights.{has_room, set_light_at}
 use Rattle.ff_state.specs.declared.lights.LightChanged.{LightChanged}
 use Rattle.image.specs.Format.{image_bytes}
 use Rattle.calls.proofs.Answers.{length_right, length_wrong}
-use Rattle.calls.proofs.Calls.{image_long, image_fits, changing-nine, changing-own, changing-length, changing-done}
+use Rattle.calls.proofs.Calls.{image_long, image_fits, changing_nine, changing_own, changing-length, changing_done}
 use Rattle.light_calls.proofs.Numbers.{set_full, set_room}
 use borrow.Author.Rules.{rules}
 use Rattle.light_calls.proofs.lights.set_light_at.Statement.{statement}
@@ -20,7 +20,7 @@ shape_of-image-then-image_refused c = search rules
 
 returns-then-image_refused : tie.Need-returns-then-image_refused
 returns-then-image_refused c =
-    changing-nine _ _ _ (sym c.image_refused.ensures ∙ c.if-image_refused.true)
+    changing_nine _ _ _ (sym c.image_refused.ensures ∙ c.if-image_refused.true)
 
 state_of-s-requires : tie.Need-state_of-s-requires
 state_of-s-requires c κs =
@@ -35,7 +35,7 @@ shape_of-image-then-not-has_room c = search rules
 returns-then-not-has_room : tie.Need-returns-then-not-has_room
 returns-then-not-has_room c =
     let a = c.args in
-    changing-own _ _ _ (sym c.image_refused.ensures ∙ c.if-image_refused.false)
+    changing_own _ _ _ (sym c.image_refused.ensures ∙ c.if-image_refused.false)
     (set_full _ _ (light_at a.light.now 0) (sym (c.has_room.ensures ∙ ap (λ s. has_room s a.index) c.state_of-s.ensures) ∙ c.if-not-has_room.true))
 
 shape_of-image-then-light-ne-LIGHT_BYTES : tie.Need-shape_of-image-then-light-ne-LIGHT_BYTES
@@ -63,7 +63,7 @@ shape_of-image c = search rules
 returns : tie.Need-returns
 returns c =
     let a = c.args in
-    changing-done _ _ _ (sym c.image_refused.ensures ∙ c.if-image_refused.false)
+    changing_done _ _ _ (sym c.image_refused.ensures ∙ c.if-image_refused.false)
     (set_room _ _ (light_at a.light.now 0) (sym (c.has_room.ensures ∙ ap (λ s. has_room s a.index) c.state_of-s.ensures) ∙ c.if-not-has_room.false))
     (length_right 104 _ c.if-light-ne-LIGHT_BYTES.false)
     (c.put_state.ensures

@@ -6,8 +6,8 @@ use lib.Dec.{eqb}
 use Rattle.ff_state.specs.Lights.{has_room, set_light_enabled_at}
 use Rattle.ff_state.specs.declared.lights.LightChanged.{LightChanged}
 use Rattle.image.specs.Format.{image_bytes}
-use Rattle.calls.proofs.Calls.{image_long, image_fits, changing-nine, changing-own, changing-done}
-use Rattle.light_calls.proofs.Numbers.{enable-full, enable-room}
+use Rattle.calls.proofs.Calls.{image_long, image_fits, changing_nine, changing_own, changing_done}
+use Rattle.light_calls.proofs.Numbers.{enable_full, enable_room}
 use borrow.Author.Rules.{rules}
 use Rattle.light_calls.proofs.lights.set_light_enabled_at.Statement.{statement}
 use Rattle.light_calls.proofs.lights.set_light_enabled_at.Tie as tie
@@ -20,7 +20,7 @@ shape_of-image-then-image_refused c = search rules
 
 returns-then-image_refused : tie.Need-returns-then-image_refused
 returns-then-image_refused c =
-    changing-nine _ _ _ (sym c.image_refused.ensures ∙ c.if-image_refused.true)
+    changing_nine _ _ _ (sym c.image_refused.ensures ∙ c.if-image_refused.true)
 
 state_of-s-requires : tie.Need-state_of-s-requires
 state_of-s-requires c κs =
@@ -35,8 +35,8 @@ shape_of-image-then-not-has_room c = search rules
 returns-then-not-has_room : tie.Need-returns-then-not-has_room
 returns-then-not-has_room c =
     let a = c.args in
-    changing-own _ _ _ (sym c.image_refused.ensures ∙ c.if-image_refused.false)
-    (enable-full _ _ (not (eqb a.enabled 0)) (sym (c.has_room.ensures ∙ ap (λ s. has_room s a.index) c.state_of-s.ensures) ∙ c.if-not-has_room.true))
+    changing_own _ _ _ (sym c.image_refused.ensures ∙ c.if-image_refused.false)
+    (enable_full _ _ (not (eqb a.enabled 0)) (sym (c.has_room.ensures ∙ ap (λ s. has_room s a.index) c.state_of-s.ensures) ∙ c.if-not-has_room.true))
 
 set_light_enabled_at-c-requires : tie.Need-set_light_enabled_at-c-requires
 set_light_enabled_at-c-requires c κs = search rules
@@ -51,8 +51,8 @@ shape_of-image c = search rules
 returns : tie.Need-returns
 returns c =
     let a = c.args in
-    changing-done _ _ _ (sym c.image_refused.ensures ∙ c.if-image_refused.false)
-    (enable-room _ _ (not (eqb a.enabled 0)) (sym (c.has_room.ensures ∙ ap (λ s. has_room s a.index) c.state_of-s.ensures) ∙ c.if-not-has_room.false))
+    changing_done _ _ _ (sym c.image_refused.ensures ∙ c.if-image_refused.false)
+    (enable_room _ _ (not (eqb a.enabled 0)) (sym (c.has_room.ensures ∙ ap (λ s. has_room s a.index) c.state_of-s.ensures) ∙ c.if-not-has_room.false))
     refl
     (c.put_state.ensures
     ∙ ap (λ (t : LightChanged). image_bytes t.state)

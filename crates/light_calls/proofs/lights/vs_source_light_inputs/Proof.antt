@@ -2,7 +2,7 @@
 -- Assumes nothing.
 use mathlib.Core.Path.{refl, sym, ap, ◌∙◌}
 use Rattle.ff_state.specs.Active.{vs_source_light_inputs}
-use Rattle.calls.proofs.Calls.{image_fits, reading-nine, reading-done}
+use Rattle.calls.proofs.Calls.{image_fits, reading_nine, reading_done}
 use borrow.Author.Rules.{rules}
 use Rattle.light_calls.proofs.lights.vs_source_light_inputs.Statement.{statement}
 use Rattle.light_calls.proofs.lights.vs_source_light_inputs.Tie as tie
@@ -12,7 +12,7 @@ image_refused-requires c κs = search rules
 
 returns-then-image_refused : tie.Need-returns-then-image_refused
 returns-then-image_refused c =
-    reading-nine _ _ _ _ _ (sym c.before.image_refused.ensures ∙ c.if-image_refused.true)
+    reading_nine _ _ _ _ _ (sym c.before.image_refused.ensures ∙ c.if-image_refused.true)
 
 state_of-s-requires : tie.Need-state_of-s-requires
 state_of-s-requires c κs =
@@ -23,7 +23,7 @@ vs_source_light_inputs-requires c κs = search rules
 
 returns : tie.Need-returns
 returns c =
-    reading-done _ _ _ _ _ (sym c.before.before.before.image_refused.ensures ∙ c.before.before.if-image_refused.false) refl refl (c.vs_source_light_inputs.ensures ∙ ap vs_source_light_inputs c.before.state_of-s.ensures)
+    reading_done _ _ _ _ _ (sym c.before.before.before.image_refused.ensures ∙ c.before.before.if-image_refused.false) refl refl (c.vs_source_light_inputs.ensures ∙ ap vs_source_light_inputs c.before.state_of-s.ensures)
 
 pub vs_source_light_inputs_spec : {M : Type 1} → statement M
 vs_source_light_inputs_spec =

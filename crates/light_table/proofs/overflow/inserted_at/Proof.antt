@@ -9,7 +9,7 @@ use Rattle.light_table.specs.Entry.{zero_entry}
 use Rattle.light_table.specs.Overflow.{inserted_at}
 use Rattle.light_table.specs.declared.entry.OverflowLight.{OverflowLight}
 use Rattle.lemmas.proofs.Lists.{get_d_default}
-use Rattle.light_table.proofs.Insertion.{set-inserted, last-twice, shifted}
+use Rattle.light_table.proofs.Insertion.{set_inserted, last_twice, shifted}
 use Rattle.light_table.proofs.overflow.inserted_at.Statement.{statement}
 use Rattle.light_table.proofs.overflow.inserted_at.Tie as tie
 
@@ -23,7 +23,7 @@ full : (c : tie.Start invariant-loop-k decreases-loop-k) → length c.args.entri
 full c = c.well_formed.0.1.0.1
 
 loop-k-init : tie.Need-loop-k-init invariant-loop-k decreases-loop-k
-loop-k-init c = (omega arith, omega arith, full c, sym (last-twice c.args.entries (full c) zero_entry))
+loop-k-init c = (omega arith, omega arith, full c, sym (last_twice c.args.entries (full c) zero_entry))
 
 overflow_sub-out : tie.Need-overflow_sub-out invariant-loop-k decreases-loop-k
 overflow_sub-out c = omega arith
@@ -73,7 +73,7 @@ returns c =
     let es = a.entries in
     let done : l.k ≡ a.at = omega arith in
     ap (λ (o : List OverflowLight). set o a.at a.e) (l.invariant.3 ∙ ap (λ (k : ℕ). inserted_at k (get_or es k zero_entry) es) done)
-    ∙ set-inserted es (full start) a.at (get_or es a.at zero_entry) a.e start.requires
+    ∙ set_inserted es (full start) a.at (get_or es a.at zero_entry) a.e start.requires
 
 pub inserted_at_spec : {M : Type 1} → statement M
 inserted_at_spec =

@@ -2,7 +2,7 @@
 -- Assumes nothing.
 use mathlib.Core.Path.{sym, ◌∙◌}
 use lib.Ieee.{of_bits}
-use Rattle.matrix.proofs.Cofactors.{determinant_kept, columns_made, refused-zero, refused-infinite, accepted}
+use Rattle.matrix.proofs.Cofactors.{determinant_kept, columns_made, refused-zero, refused_infinite, accepted}
 use borrow.Author.Rules.{rules}
 use Rattle.matrix.proofs.inversion.inverse.Statement.{statement}
 use Rattle.matrix.proofs.inversion.inverse.Tie as tie
@@ -69,7 +69,7 @@ returns : tie.Need-returns
 unfolding of_bits
 returns c =
     let d = c.before.before.before in
-    refused-infinite d.before.before.before.args.m d.determinant-det.result
+    refused_infinite d.before.before.before.args.m d.determinant-det.result
     (determinant_kept d.before.before.before.args.m d.before.before.minors_of-s.ensures d.before.minors_of-c.ensures d.determinant-det.ensures)
     c.before.before.if-det.false
     (sym c.before.is_finite.ensures ∙ c.if-is_finite.false)

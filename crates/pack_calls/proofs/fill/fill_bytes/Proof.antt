@@ -5,7 +5,7 @@ use mathlib.Core.Path.{sym, ap, ◌∙◌}
 use Rattle.codec.specs.Float.{float_bytes}
 use Rattle.codec.proofs.Put.{put_whole}
 use Rattle.image_lists.specs.Lists.{list_bytes}
-use Rattle.image_lists.proofs.Writing.{length-listBytes}
+use Rattle.image_lists.proofs.Writing.{length_list_bytes}
 use Rattle.calls.proofs.Answers.{refused, accepted}
 use Rattle.packing.specs.Pack.{pack_number}
 use Rattle.pack_calls.proofs.Width.{length-float_bytes}
@@ -43,7 +43,7 @@ returns-in-Packed c =
     let fine = sym (number_is _ _ _ a.floats.now q.0 c.pack_section-answer.ensures) ∙ ap pack_number c.in-Packed.is in
     accepted _ a.dst.now fine
     (c.put_floats.ensures
-    ∙ put_whole _ a.dst.now (q.1 ∙ sym (length-listBytes float_bytes 4 length-float_bytes _ ∙ ap (λ (n : ℕ). 4 * n) c.pack_section-answer.auto.dst))
+    ∙ put_whole _ a.dst.now (q.1 ∙ sym (length_list_bytes float_bytes 4 length-float_bytes _ ∙ ap (λ (n : ℕ). 4 * n) c.pack_section-answer.auto.dst))
     ∙ ap (list_bytes float_bytes) (rows_are _ _ _ a.floats.now q.0 c.pack_section-answer.ensures fine))
 
 shape_of-floats-in-WrongLength : tie.Need-shape_of-floats-in-WrongLength

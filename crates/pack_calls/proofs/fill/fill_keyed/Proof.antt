@@ -1,11 +1,11 @@
--- `pack_calls::fill::fill_keyed` meets its contract. Each test decides the code in its order; no section has more floats than the mirror (`fits-mirror`).
+-- `pack_calls::fill::fill_keyed` meets its contract. Each test decides the code in its order; no section has more floats than the mirror (`fits_mirror`).
 -- Assumes nothing.
 use Prim.Native.Nat.{ℕ, ◌*◌, ◌<◌}
 use native.Mathlib.Omega.{arith}
 use mathlib.Core.Path.{sym, ap, ◌∙◌, ◌≡◌}
-use Rattle.calls.proofs.Calls.{image_fits, reading-nine, reading-own}
+use Rattle.calls.proofs.Calls.{image_fits, reading_nine, reading_own}
 use Rattle.pack_calls.specs.Fill.{fill_number}
-use Rattle.pack_calls.proofs.Fills.{fill-wrong, fill-fits, front, front-rows, fill_done}
+use Rattle.pack_calls.proofs.Fills.{fill_wrong, fill_fits, front, front_rows, fill_done}
 use borrow.Author.Rules.{rules}
 use Rattle.pack_calls.proofs.fill.fill_keyed.Statement.{statement}
 use Rattle.pack_calls.proofs.fill.fill_keyed.Tie as tie
@@ -36,7 +36,7 @@ image_refused-requires c κs = search rules
 
 returns-then-image_refused : tie.Need-returns-then-image_refused
 returns-then-image_refused c =
-    reading-nine _ _ _ _ _ (sym c.before.image_refused.ensures ∙ c.if-image_refused.true)
+    reading_nine _ _ _ _ _ (sym c.before.image_refused.ensures ∙ c.if-image_refused.true)
 
 state_of-s-requires : tie.Need-state_of-s-requires
 state_of-s-requires c κs =
@@ -58,8 +58,8 @@ returns-then-dst-n : tie.Need-returns-then-dst-n
 returns-then-dst-n c =
     let table = c.before in
     let a = (begin table).args in
-    reading-own _ _ _ _ _ (read table)
-    (ap (fill_number a.section a.key a.dst.now) (sym table.before.state_of-s.ensures) ∙ fill-wrong a.section (state table) a.key (rows_is table) _ c.if-dst-n.true)
+    reading_own _ _ _ _ _ (read table)
+    (ap (fill_number a.section a.key a.dst.now) (sym table.before.state_of-s.ensures) ∙ fill_wrong a.section (state table) a.key (rows_is table) _ c.if-dst-n.true)
 
 mirror_floats-floats-requires : tie.Need-mirror_floats-floats-requires
 mirror_floats-floats-requires c κs = search rules
@@ -68,7 +68,7 @@ slice_bounds-floats-end : tie.Need-slice_bounds-floats-end
 slice_bounds-floats-end c =
     let table = c.before.before in
     let a = (begin table).args in
-    omega (arith, fill-fits a.section (state table) a.key (rows_is table) (byte table))
+    omega (arith, fill_fits a.section (state table) a.key (rows_is table) (byte table))
 
 slice_bounds-fill_bytes-end : tie.Need-slice_bounds-fill_bytes-end
 slice_bounds-fill_bytes-end c =
@@ -82,7 +82,7 @@ fill_bytes-requires c κs =
     let table = made.before.before in
     let a = (begin table).args in
     let long = made.mirror_floats-floats.ensures in (
-      front-rows a.section (state table) a.key (rows_is table) (byte table) _ long,
+      front_rows a.section (state table) a.key (rows_is table) (byte table) _ long,
       made.before.if-dst-n.false ∙ ap (λ (n : ℕ). 4 * n) (sym (front a.section (state table) a.key (rows_is table) (byte table) _ long)),
     )
 

@@ -1,7 +1,7 @@
 -- `pack_calls::row_counts::count_keyed` meets its contract. Past 9 the call never refuses; the texture mask is that of the state read.
 -- Assumes nothing.
 use mathlib.Core.Path.{refl, sym, ◌∙◌}
-use Rattle.calls.proofs.Calls.{image_fits, reading-nine, reading-done}
+use Rattle.calls.proofs.Calls.{image_fits, reading_nine, reading_done}
 use borrow.Author.Rules.{rules}
 use Rattle.pack_calls.proofs.row_counts.count_keyed.Statement.{statement}
 use Rattle.pack_calls.proofs.row_counts.count_keyed.Tie as tie
@@ -10,7 +10,7 @@ image_refused-requires : tie.Need-image_refused-requires
 image_refused-requires c κs = search rules
 
 returns-then-image_refused : tie.Need-returns-then-image_refused
-returns-then-image_refused c = reading-nine _ _ _ _ _ (sym c.before.image_refused.ensures ∙ c.if-image_refused.true)
+returns-then-image_refused c = reading_nine _ _ _ _ _ (sym c.before.image_refused.ensures ∙ c.if-image_refused.true)
 
 state_of-s-requires : tie.Need-state_of-s-requires
 state_of-s-requires c κs =
@@ -26,7 +26,7 @@ returns : tie.Need-returns
 returns c =
     let read = c.before in
     let past = read.before in
-    reading-done _ _ _ _ _ (sym past.before.image_refused.ensures ∙ past.if-image_refused.false) refl refl (cc (c.ff_vs_row_count-n.ensures, read.state_of-s.ensures))
+    reading_done _ _ _ _ _ (sym past.before.image_refused.ensures ∙ past.if-image_refused.false) refl refl (cc (c.ff_vs_row_count-n.ensures, read.state_of-s.ensures))
 
 pub count_keyed_spec : {M : Type 1} → statement M
 count_keyed_spec =

@@ -1,7 +1,7 @@
 -- `pack_calls::row_counts::rows_keyed` meets its contract. Past 9 the call never refuses; the texture mask is that of the state read.
 -- Assumes nothing.
 use mathlib.Core.Path.{refl, sym, ap, ◌∙◌}
-use Rattle.calls.proofs.Calls.{image_fits, reading-nine, reading-done}
+use Rattle.calls.proofs.Calls.{image_fits, reading_nine, reading_done}
 use Rattle.packing.specs.Pack.{state_count}
 use borrow.Author.Rules.{rules}
 use Rattle.pack_calls.proofs.row_counts.rows_keyed.Statement.{statement}
@@ -11,7 +11,7 @@ image_refused-requires : tie.Need-image_refused-requires
 image_refused-requires c κs = search rules
 
 returns-then-image_refused : tie.Need-returns-then-image_refused
-returns-then-image_refused c = reading-nine _ _ _ _ _ (sym c.before.image_refused.ensures ∙ c.if-image_refused.true)
+returns-then-image_refused c = reading_nine _ _ _ _ _ (sym c.before.image_refused.ensures ∙ c.if-image_refused.true)
 
 state_of-s-requires : tie.Need-state_of-s-requires
 state_of-s-requires c κs =
@@ -28,7 +28,7 @@ returns c =
     let read = c.before in
     let past = read.before in
     let a = past.before.before.before.args in
-    reading-done _ _ _ _ _ (sym past.before.image_refused.ensures ∙ past.if-image_refused.false) refl refl (c.section_rows-rows.ensures ∙ ap (λ s. state_count a.section s a.key) read.state_of-s.ensures)
+    reading_done _ _ _ _ _ (sym past.before.image_refused.ensures ∙ past.if-image_refused.false) refl refl (c.section_rows-rows.ensures ∙ ap (λ s. state_count a.section s a.key) read.state_of-s.ensures)
 
 pub rows_keyed_spec : {M : Type 1} → statement M
 rows_keyed_spec =

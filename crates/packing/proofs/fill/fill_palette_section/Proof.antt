@@ -9,7 +9,7 @@ use lib.ListN.{take}
 use Rattle.rows.specs.Rows.{floats}
 use Rattle.rows.specs.Matrices.{palette_rows}
 use Rattle.sections.specs.Counts.{palette_count}
-use Rattle.sections.proofs.Bounds.{matrices-most}
+use Rattle.sections.proofs.Bounds.{matrices_most}
 use borrow.Author.Rules.{rules}
 use Rattle.packing.proofs.fill.fill_palette_section.Statement.{statement}
 use Rattle.packing.proofs.fill.fill_palette_section.Tie as tie
@@ -30,7 +30,7 @@ write_palette-requires : tie.Need-write_palette-requires
 unfolding palette_count
 write_palette-requires c κs =
     let e = c.palette_matrices-n.ensures in
-    let most = matrices-most c.args.key c.well_formed.1.0.1.1.1.1.1.1.1.1.1.0.1 in
+    let most = matrices_most c.args.key c.well_formed.1.0.1.1.1.1.1.1.1.1.1.0.1 in
     (omega (arith, e, most), omega (arith, e, (passed Palette c.args.s c.args.key c.args.dst.now c.is_length.ensures c.if-not-is_length.false).long))
 
 shape_of-dst : tie.Need-shape_of-dst

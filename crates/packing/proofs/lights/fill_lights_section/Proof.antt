@@ -18,7 +18,7 @@ use Rattle.sections.specs.Key.{light_limit}
 use Rattle.sections.proofs.Shape.{limit_small}
 use Rattle.packing.proofs.Lengths.{places_low}
 use Rattle.packing.proofs.Outcomes.{Passed, failed, passed}
-use Rattle.packing.proofs.LightMask.{packed, none-accepted, none-packed, its-accepted, another-refused, some-packed}
+use Rattle.packing.proofs.LightMask.{packed, none_accepted, none-packed, its_accepted, another_refused, some_packed}
 use borrow.Author.Rules.{rules}
 use Rattle.packing.proofs.lights.fill_lights_section.Statement.{statement}
 use Rattle.packing.proofs.lights.fill_lights_section.Tie as tie
@@ -60,7 +60,7 @@ returns-then-not-is_length c = failed Lights _ _ _ c.before.is_length.ensures c.
 returns-then-mask-eq0 : tie.Need-returns-then-mask-eq0
 returns-then-mask-eq0 c =
     let a = c.before.before.before.before.args in
-    (ok c.before).packs (none-accepted a.s a.key c.if-mask-eq0.true) _ (none-packed a.s a.key _ (ok c.before).long c.if-mask-eq0.true)
+    (ok c.before).packs (none_accepted a.s a.key c.if-mask-eq0.true) _ (none-packed a.s a.key _ (ok c.before).long c.if-mask-eq0.true)
 
 resolve_active_lights-list-requires : tie.Need-resolve_active_lights-list-requires
 resolve_active_lights-list-requires c κs = search rules
@@ -74,7 +74,7 @@ returns-then-mask-low_bits c =
     let test = list.before.before in
     let a = test.before.before.before.args in
     (ok test).another_mask
-    (another-refused a.s a.key list.resolve_active_lights-list.result.len list.before.if-mask-eq0.false (counted list) (λ e. c.if-mask-low_bits.true (e ∙ sym c.before.low_bits.ensures)))
+    (another_refused a.s a.key list.resolve_active_lights-list.result.len list.before.if-mask-eq0.false (counted list) (λ e. c.if-mask-low_bits.true (e ∙ sym c.before.low_bits.ensures)))
 
 write_lights-requires : tie.Need-write_lights-requires
 write_lights-requires c κs =
@@ -93,11 +93,11 @@ returns c =
     let test = list.before.before in
     let a = test.before.before.before.args in
     (ok test).packs
-    (its-accepted a.s a.key list.resolve_active_lights-list.result.len list.before.if-mask-eq0.false (counted list) (masked.if-mask-low_bits.false ∙ masked.before.low_bits.ensures))
+    (its_accepted a.s a.key list.resolve_active_lights-list.result.len list.before.if-mask-eq0.false (counted list) (masked.if-mask-low_bits.false ∙ masked.before.low_bits.ensures))
     _
     (wrote.write_lights.ensures
     ∙ ap (λ (ls : List D3DLIGHT9). floats (lights_rows a.s.view ls)) (front list)
-    ∙ some-packed a.s a.key list.before.if-mask-eq0.false)
+    ∙ some_packed a.s a.key list.before.if-mask-eq0.false)
 
 pub fill_lights_section_spec : {M : Type 1} → statement M
 fill_lights_section_spec =

@@ -5,7 +5,7 @@ use native.Mathlib.Omega.{arith}
 use mathlib.Core.Path.{◌≡◌, sym, ap, ◌∙◌}
 use Rattle.sections.specs.Counts.{section_rows}
 use Rattle.sections.specs.Sections.{first_row}
-use Rattle.sections.proofs.Tiles.{fits-mirror}
+use Rattle.sections.proofs.Tiles.{fits_mirror}
 use Rattle.refresh.specs.Written.{written_section}
 use Rattle.refresh.proofs.Packed.{Ready, rows-length, packs}
 use Rattle.codec.proofs.Put.{part_length, put_back}
@@ -69,7 +69,7 @@ slice_bounds-pack_section-end : tie.Need-slice_bounds-pack_section-end
 slice_bounds-pack_section-end c =
     let table = c in
     let start = begin table in
-    omega (arith, first-is table, rows_is table, start.requires.0, fits-mirror start.args.key start.args.s.tt_active_mask (ready start).count start.args.section)
+    omega (arith, first-is table, rows_is table, start.requires.0, fits_mirror start.args.key start.args.s.tt_active_mask (ready start).count start.args.section)
 
 pack_section-requires : tie.Need-pack_section-requires
 pack_section-requires c κs = search rules
@@ -86,7 +86,7 @@ returns-then-has_section c =
     let f : ℕ = 4 * table.before.first_row-row.result in
     let n : ℕ = f + 4 * table.section_rows-rows.result - f in
     let whole : n ≡ 4 * state_count a.section a.s a.key = omega (arith, rows_is table) in
-    let room = fits-mirror a.key a.s.tt_active_mask (ready start).count a.section in
+    let room = fits_mirror a.key a.s.tt_active_mask (ready start).count a.section in
     let long = part_length f n a.mirror.now (omega (arith, first-is table, rows_is table, start.requires.0, room)) ∙ whole in
     rw (sym table.before.before.before.has_section.ensures ∙ table.before.before.if-has_section.true)
     (put_back a.mirror.now (ap (λ (r : ℕ). 4 * r) (first-is table))

@@ -14,7 +14,7 @@ use Rattle.refresh.proofs.Answers.{accepted_fits}
 use Rattle.calls.proofs.Calls.{image_long, image_fits}
 use Rattle.refresh_calls.specs.Mirror.{left}
 use Rattle.refresh_calls.specs.Written.{written_bytes}
-use Rattle.refresh_calls.proofs.Outcomes.{refresh-nine, refresh-four, refresh-refused, refresh-done}
+use Rattle.refresh_calls.proofs.Outcomes.{refresh_nine, refresh_four, refresh_refused, refresh_done}
 use Rattle.refresh_calls.proofs.Parts.{all_written}
 use borrow.Author.Rules.{rules}
 use Rattle.refresh_calls.proofs.mirror.refresh_keyed.Statement.{statement}
@@ -27,13 +27,13 @@ shape_of-image-then-image_refused : tie.Need-shape_of-image-then-image_refused
 shape_of-image-then-image_refused c = search rules
 
 returns-then-image_refused : tie.Need-returns-then-image_refused
-returns-then-image_refused c = refresh-nine _ _ _ _ (sym c.image_refused.ensures ∙ c.if-image_refused.true)
+returns-then-image_refused c = refresh_nine _ _ _ _ (sym c.image_refused.ensures ∙ c.if-image_refused.true)
 
 shape_of-image-then-mirror-ne-MIRROR_BYTES : tie.Need-shape_of-image-then-mirror-ne-MIRROR_BYTES
 shape_of-image-then-mirror-ne-MIRROR_BYTES c = search rules
 
 returns-then-mirror-ne-MIRROR_BYTES : tie.Need-returns-then-mirror-ne-MIRROR_BYTES
-returns-then-mirror-ne-MIRROR_BYTES c = refresh-four _ _ _ _ (sym c.image_refused.ensures ∙ c.if-image_refused.false) c.if-mirror-ne-MIRROR_BYTES.true
+returns-then-mirror-ne-MIRROR_BYTES c = refresh_four _ _ _ _ (sym c.image_refused.ensures ∙ c.if-image_refused.false) c.if-mirror-ne-MIRROR_BYTES.true
 
 state_of-s-requires : tie.Need-state_of-s-requires
 state_of-s-requires c κs = image_fits _ (sym c.image_refused.ensures ∙ c.if-image_refused.false)
@@ -98,7 +98,7 @@ shape_of-image-in-WrongLength c = search rules
 returns-in-WrongLength : tie.Need-returns-in-WrongLength
 unfolding refresh_number
 returns-in-WrongLength c =
-    refresh-refused _ _ _ _ (sym c.image_refused.ensures ∙ c.if-image_refused.false) c.if-mirror-ne-MIRROR_BYTES.false (ap refresh_number (sym (c.refresh_answer-answer.ensures ∙ ap (λ (s : FfState). refresh_answer s c.args.key 4460) c.state_of-s.ensures) ∙ c.in-WrongLength.is))
+    refresh_refused _ _ _ _ (sym c.image_refused.ensures ∙ c.if-image_refused.false) c.if-mirror-ne-MIRROR_BYTES.false (ap refresh_number (sym (c.refresh_answer-answer.ensures ∙ ap (λ (s : FfState). refresh_answer s c.args.key 4460) c.state_of-s.ensures) ∙ c.in-WrongLength.is))
 
 shape_of-image-in-HasRhw : tie.Need-shape_of-image-in-HasRhw
 shape_of-image-in-HasRhw c = search rules
@@ -106,7 +106,7 @@ shape_of-image-in-HasRhw c = search rules
 returns-in-HasRhw : tie.Need-returns-in-HasRhw
 unfolding refresh_number
 returns-in-HasRhw c =
-    refresh-refused _ _ _ _ (sym c.image_refused.ensures ∙ c.if-image_refused.false) c.if-mirror-ne-MIRROR_BYTES.false (ap refresh_number (sym (c.refresh_answer-answer.ensures ∙ ap (λ (s : FfState). refresh_answer s c.args.key 4460) c.state_of-s.ensures) ∙ c.in-HasRhw.is))
+    refresh_refused _ _ _ _ (sym c.image_refused.ensures ∙ c.if-image_refused.false) c.if-mirror-ne-MIRROR_BYTES.false (ap refresh_number (sym (c.refresh_answer-answer.ensures ∙ ap (λ (s : FfState). refresh_answer s c.args.key 4460) c.state_of-s.ensures) ∙ c.in-HasRhw.is))
 
 shape_of-image-in-WrongMask : tie.Need-shape_of-image-in-WrongMask
 shape_of-image-in-WrongMask c = search rules
@@ -114,7 +114,7 @@ shape_of-image-in-WrongMask c = search rules
 returns-in-WrongMask : tie.Need-returns-in-WrongMask
 unfolding refresh_number
 returns-in-WrongMask c =
-    refresh-refused _ _ _ _ (sym c.image_refused.ensures ∙ c.if-image_refused.false) c.if-mirror-ne-MIRROR_BYTES.false (ap refresh_number (sym (c.refresh_answer-answer.ensures ∙ ap (λ (s : FfState). refresh_answer s c.args.key 4460) c.state_of-s.ensures) ∙ c.in-WrongMask.is))
+    refresh_refused _ _ _ _ (sym c.image_refused.ensures ∙ c.if-image_refused.false) c.if-mirror-ne-MIRROR_BYTES.false (ap refresh_number (sym (c.refresh_answer-answer.ensures ∙ ap (λ (s : FfState). refresh_answer s c.args.key 4460) c.state_of-s.ensures) ∙ c.in-WrongMask.is))
 
 shape_of-image-in-Accepted : tie.Need-shape_of-image-in-Accepted
 shape_of-image-in-Accepted c = search rules
@@ -147,7 +147,7 @@ returns-in-Accepted c =
     c.write_section_bytes-in-Accepted-5.ensures
     c.write_section_bytes-in-Accepted-6.ensures
     c.write_section_bytes-in-Accepted-7.ensures in
-    refresh-done _ _ _ _ (sym c.image_refused.ensures ∙ c.if-image_refused.false) c.if-mirror-ne-MIRROR_BYTES.false (ap refresh_number (sym (c.refresh_answer-answer.ensures ∙ ap (λ (s : FfState). refresh_answer s c.args.key 4460) c.state_of-s.ensures) ∙ c.in-Accepted.is)) _
+    refresh_done _ _ _ _ (sym c.image_refused.ensures ∙ c.if-image_refused.false) c.if-mirror-ne-MIRROR_BYTES.false (ap refresh_number (sym (c.refresh_answer-answer.ensures ∙ ap (λ (s : FfState). refresh_answer s c.args.key 4460) c.state_of-s.ensures) ∙ c.in-Accepted.is)) _
     (ap₂ (λ (i m : List ℕ). left i m t.bits) c.put_state.ensures all
     ∙ ap (λ (r : Taken). left (image_bytes r.state) (written_bytes sections r.bits s a.key a.mirror.now) r.bits) taken
     ∙ ap (λ (x : FfState). left (image_bytes (take_ff_vs_dirty x).state) (written_bytes sections (take_ff_vs_dirty x).bits x a.key a.mirror.now) (take_ff_vs_dirty x).bits) is)

@@ -5,14 +5,14 @@ use native.Mathlib.Omega.{arith}
 use mathlib.Core.Path.{◌≡◌, sym, ap, ◌∙◌}
 use lib.ListN.{length}
 use Rattle.codec.specs.Float.{float_bytes}
-use Rattle.image_lists.proofs.Writing.{length-listBytes}
+use Rattle.image_lists.proofs.Writing.{length_list_bytes}
 use Rattle.sections.specs.Sections.{first_row}
-use Rattle.sections.proofs.Tiles.{fits-mirror}
+use Rattle.sections.proofs.Tiles.{fits_mirror}
 use Rattle.packing.specs.Pack.{pack_number, state_count}
 use Rattle.refresh.proofs.Packed.{Ready, rows-length, accepted}
 use Rattle.refresh_calls.specs.Written.{written_section_bytes}
 use Rattle.pack_calls.specs.Fill.{fill_bytes}
-use Rattle.pack_calls.proofs.Fills.{fill-fits, front, front-rows}
+use Rattle.pack_calls.proofs.Fills.{fill_fits, front, front_rows}
 use Rattle.codec.proofs.Put.{part_length, put_back}
 use Rattle.refresh_calls.proofs.Parts.{filled}
 use Rattle.pack_calls.proofs.Width.{length-float_bytes}
@@ -72,7 +72,7 @@ slice_bounds-floats-end : tie.Need-slice_bounds-floats-end
 slice_bounds-floats-end c =
     let table = c.before in
     let a = (start table).args in
-    omega (arith, fill-fits a.section a.s a.key (rows_is table) (ready (start table)).count)
+    omega (arith, fill_fits a.section a.s a.key (rows_is table) (ready (start table)).count)
 
 slice_bounds-fill_bytes-end : tie.Need-slice_bounds-fill_bytes-end
 slice_bounds-fill_bytes-end c =
@@ -90,7 +90,7 @@ slice_bounds-fill_bytes-end-then-has_section : tie.Need-slice_bounds-fill_bytes-
 slice_bounds-fill_bytes-end-then-has_section c =
     let table = c.before.before in
     let begin = start table in
-    omega (arith, first-is table, rows_is table, begin.requires.0, fits-mirror begin.args.key begin.args.s.tt_active_mask (ready begin).count begin.args.section)
+    omega (arith, first-is table, rows_is table, begin.requires.0, fits_mirror begin.args.key begin.args.s.tt_active_mask (ready begin).count begin.args.section)
 
 fill_bytes-requires : tie.Need-fill_bytes-requires
 fill_bytes-requires c κs =
@@ -102,8 +102,8 @@ fill_bytes-requires c κs =
     let f : ℕ = 16 * table.before.first_row-row.result in
     let n : ℕ = f + 4 * (4 * table.section_rows-rows.result) - f in
     let whole : n ≡ 4 * (4 * table.section_rows-rows.result) = omega arith in
-    let room = fits-mirror a.key a.s.tt_active_mask byte a.section in (
-      front-rows a.section a.s a.key (rows_is table) byte _ long,
+    let room = fits_mirror a.key a.s.tt_active_mask byte a.section in (
+      front_rows a.section a.s a.key (rows_is table) byte _ long,
       part_length f n a.mirror.now (omega (arith, first-is table, rows_is table, begin.requires.0, room)) ∙ whole ∙ ap (λ (x : ℕ). 4 * x) (sym (front a.section a.s a.key (rows_is table) byte _ long)),
     )
 
@@ -122,7 +122,7 @@ returns-then-has_section c =
     let n : ℕ = f + 4 * (4 * table.section_rows-rows.result) - f in
     let whole : n ≡ 16 * state_count a.section a.s a.key = omega (arith, rows_is table) in
     let wide : length (fill_bytes a.section a.key a.s) ≡ n =
-    length-listBytes float_bytes 4 length-float_bytes _ ∙ ap (λ (x : ℕ). 4 * x) (rows-length k a.section) ∙ omega (arith, whole) in
+    length_list_bytes float_bytes 4 length-float_bytes _ ∙ ap (λ (x : ℕ). 4 * x) (rows-length k a.section) ∙ omega (arith, whole) in
     let place : f ≡ 4 * (4 * first_row a.section) = omega (arith, first-is table) in
     rw (sym table.before.before.before.has_section.ensures ∙ table.before.before.if-has_section.true)
     (put_back a.mirror.now place

@@ -5,7 +5,7 @@ use Rattle.codec.proofs.Put.{part_length, put_back}
 use Rattle.rows.specs.Material.{material_rows}
 use Rattle.rows.proofs.Floats.{length-floats}
 use Rattle.sections.specs.Counts.{material_count}
-use Rattle.sections.proofs.Bounds.{material-most}
+use Rattle.sections.proofs.Bounds.{material_most}
 use Rattle.packing.proofs.Lengths.{material-rows}
 use Rattle.sections.specs.declared.key.FfVsKey.{FfVsKey}
 use Rattle.d3d9_types.specs.declared.material.D3DMATERIAL9.{D3DMATERIAL9}
@@ -18,13 +18,13 @@ unfolding material_count
 counted key material n e = material-rows key.lighting_enabled key.specular_enable material ∙ sym e
 
 pub slice_bounds-write_material-end : goal.slice_bounds-write_material-end
-slice_bounds-write_material-end c = omega (arith, c.material_section_rows.ensures, material-most c.args.key, c.requires)
+slice_bounds-write_material-end c = omega (arith, c.material_section_rows.ensures, material_most c.args.key, c.requires)
 
 pub write_material-requires : goal.write_material-requires
 write_material-requires c =
     let n = c.material_section_rows.result in
     let k : ℕ = 40 + 4 * n - 40 in
-    part_length 40 k c.args.mirror.now (omega (arith, c.material_section_rows.ensures, material-most c.args.key, c.requires))
+    part_length 40 k c.args.mirror.now (omega (arith, c.material_section_rows.ensures, material_most c.args.key, c.requires))
     ∙ omega (arith, counted c.args.key c.args.material n c.material_section_rows.ensures)
 
 pub returns-then-has_section : goal.returns-then-has_section

@@ -1,6 +1,6 @@
 -- A byte that is no digit is in no word's text, and a digit that is read makes one digit more.
 use Rattle.std.proofs.Common.{arith, refl, ℕ, ◌+◌, ◌*◌, ◌<◌, ◌^◌, get_or}
-use Rattle.replay_text.proofs.hex.Digits.{room_more, room_fits, text-more, no_word, short_word}
+use Rattle.replay_text.proofs.hex.Digits.{room_more, room_fits, text_more, no_word, short_word}
 use Rattle.replay_text.proofs.hex.word_at.Goals as goal
 
 pub returns-then-s-lt8 : goal.returns-then-s-lt8
@@ -31,5 +31,5 @@ loop-i-preserved c = record {
   within = omega arith;
   room = room_more c.loop-i.i c.loop-i.w c.in-Value.d c.loop-i.invariant.room c.in-Value.ensures.0;
   read =
-      text-more c.args.s.now c.args.at c.loop-i.invariant.fits c.loop-i.i c.loop-i.w c.in-Value.d c.loop-i-test.true c.in-Value.ensures.0 c.loop-i.invariant.read c.in-Value.ensures.1;
+      text_more c.args.s.now c.args.at c.loop-i.invariant.fits c.loop-i.i c.loop-i.w c.in-Value.d c.loop-i-test.true c.in-Value.ensures.0 c.loop-i.invariant.read c.in-Value.ensures.1;
 }

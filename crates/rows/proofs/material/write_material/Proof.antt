@@ -28,16 +28,16 @@ module _ (l sp : Bool) (m : D3DMATERIAL9) (dst : List Float) (whole : length dst
   unlit e = rw e (written_whole (color_row m.diffuse) [] dst (rw e at whole))
 
   module _ (e : l ≡ true) where
-    least-lit : 16 ≤ length dst
+    least_lit : 16 ≤ length dst
     unfolding material_rows
-    least-lit = omega (arith, rw e at whole)
+    least_lit = omega (arith, rw e at whole)
 
     matte : sp ≡ false → sets dst 0 (floats (material_rows true false m)) ≡ floats (material_rows l sp m)
     matte q = rw (e, q) (sets_whole (floats (material_rows true false m)) dst (rw (e, q) at whole ∙ sym (length-floats (material_rows true false m))))
 
-    least-specular : sp ≡ true → 20 ≤ length dst
+    least_specular : sp ≡ true → 20 ≤ length dst
     unfolding material_rows
-    least-specular q = omega (arith, rw (e, q) at whole)
+    least_specular q = omega (arith, rw (e, q) at whole)
 
     shiny : sp ≡ true → sets (sets dst 0 (floats (material_rows true false m))) 16 (row_floats (power_row m)) ≡ floats (material_rows l sp m)
     unfolding floats material_rows
@@ -67,7 +67,7 @@ write_colors-requires : tie.Need-write_colors-requires
 write_colors-requires c κs =
     let test = c.before in
     let a = test.before.before.args in
-    least-lit a.lit a.specular a.m a.dst.now test.before.before.requires test.if-not-lit.false
+    least_lit a.lit a.specular a.m a.dst.now test.before.before.requires test.if-not-lit.false
 
 shape_of-dst-then-not-specular : tie.Need-shape_of-dst-then-not-specular
 shape_of-dst-then-not-specular c = search rules
@@ -85,7 +85,7 @@ write_row-requires-2 c κs =
     let wrote = c.before.before.before.before in
     let test = wrote.before.before in
     let a = test.before.before.args in
-    omega (arith, wrote.write_colors.auto.dst, least-specular a.lit a.specular a.m a.dst.now test.before.before.requires test.if-not-lit.false c.before.if-not-specular.false)
+    omega (arith, wrote.write_colors.auto.dst, least_specular a.lit a.specular a.m a.dst.now test.before.before.requires test.if-not-lit.false c.before.if-not-specular.false)
 
 shape_of-dst : tie.Need-shape_of-dst
 shape_of-dst c = search rules

@@ -5,7 +5,7 @@ use native.Mathlib.Omega.{arith}
 use mathlib.Core.Path.{ap}
 use borrow.Author.Tests.{eq-eqb, ne_eqb}
 use Rattle.sections.specs.RowCount.{palette_reach}
-use Rattle.sections.proofs.Bounds.{palette-most}
+use Rattle.sections.proofs.Bounds.{palette_most}
 use borrow.Author.Rules.{rules}
 use Rattle.sections.proofs.row_count.palette_reach.Statement.{statement}
 use Rattle.sections.proofs.row_count.palette_reach.Tie as tie
@@ -18,7 +18,7 @@ palette_section_rows-requires : tie.Need-palette_section_rows-requires
 palette_section_rows-requires c κs = search rules
 
 overflow_add-result : tie.Need-overflow_add-result
-overflow_add-result c = omega (arith, c.palette_section_rows.ensures, palette-most c.before.before.before.args.key (search rules))
+overflow_add-result c = omega (arith, c.palette_section_rows.ensures, palette_most c.before.before.before.args.key (search rules))
 
 returns : tie.Need-returns
 unfolding palette_reach

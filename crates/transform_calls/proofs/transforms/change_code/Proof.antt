@@ -2,8 +2,8 @@
 -- Assumes nothing.
 use mathlib.Core.Path.{sym, ◌∙◌}
 use Rattle.calls.proofs.Answers.{length_right, length_wrong}
-use Rattle.calls.proofs.Calls.{changing-code, code-nine, code-own, code-length}
-use Rattle.transform_calls.proofs.Numbers.{set_known, set-unknown}
+use Rattle.calls.proofs.Calls.{changing_code, code_nine, code_own, code_length}
+use Rattle.transform_calls.proofs.Numbers.{set_known, set_unknown}
 use borrow.Author.Rules.{rules}
 use Rattle.transform_calls.proofs.transforms.change_code.Statement.{statement}
 use Rattle.transform_calls.proofs.transforms.change_code.Tie as tie
@@ -13,7 +13,7 @@ image_refused-requires c κs = search rules
 
 returns-then-image_refused : tie.Need-returns-then-image_refused
 returns-then-image_refused c =
-    sym (changing-code _ _ _ ∙ code-nine _ _ _ (sym c.image_refused.ensures ∙ c.if-image_refused.true))
+    sym (changing_code _ _ _ ∙ code_nine _ _ _ (sym c.image_refused.ensures ∙ c.if-image_refused.true))
 
 slot_of-slot-requires : tie.Need-slot_of-slot-requires
 slot_of-slot-requires c κs = search rules
@@ -27,16 +27,16 @@ enum_told-in_default c = search rules
 returns-in_default : tie.Need-returns-in_default
 returns-in_default c =
     sym
-    (changing-code _ _ _
-    ∙ code-own _ _ _ (sym c.image_refused.ensures ∙ c.if-image_refused.false)
-    (set-unknown _ _ _ (sym c.slot_of-slot.ensures ∙ c.in_default.is)))
+    (changing_code _ _ _
+    ∙ code_own _ _ _ (sym c.image_refused.ensures ∙ c.if-image_refused.false)
+    (set_unknown _ _ _ (sym c.slot_of-slot.ensures ∙ c.in_default.is)))
 
 returns-then-matrix-ne-MATRIX_BYTES : tie.Need-returns-then-matrix-ne-MATRIX_BYTES
 returns-then-matrix-ne-MATRIX_BYTES c =
     let at-image-refused = c in
     sym
-    (changing-code _ _ _
-    ∙ code-length _ _ _ (sym at-image-refused.image_refused.ensures ∙ c.if-image_refused.false)
+    (changing_code _ _ _
+    ∙ code_length _ _ _ (sym at-image-refused.image_refused.ensures ∙ c.if-image_refused.false)
     (set_known _ _ _ (sym c.slot_of-slot.ensures ∙ c.in-At.is))
     ∙ length_wrong 64 _ c.if-matrix-ne-MATRIX_BYTES.true)
 
@@ -44,8 +44,8 @@ returns : tie.Need-returns
 returns c =
     let at-image-refused = c in
     sym
-    (changing-code _ _ _
-    ∙ code-length _ _ _ (sym at-image-refused.image_refused.ensures ∙ c.if-image_refused.false)
+    (changing_code _ _ _
+    ∙ code_length _ _ _ (sym at-image-refused.image_refused.ensures ∙ c.if-image_refused.false)
     (set_known _ _ _ (sym c.slot_of-slot.ensures ∙ c.in-At.is))
     ∙ length_right 64 _ c.if-matrix-ne-MATRIX_BYTES.false)
 

@@ -4,8 +4,8 @@ use mathlib.Core.Path.{sym, ap, ap₂, ◌∙◌}
 use Rattle.ff_state.specs.Transforms.{set_transform}
 use Rattle.ff_state.specs.declared.transforms.TransformChanged.{TransformChanged}
 use Rattle.image.specs.Format.{image_bytes}
-use Rattle.calls.proofs.Calls.{image_long, image_fits, changing-refused, changing-accepted}
-use Rattle.transform_calls.proofs.Changes.{image-passed, matrix-passed}
+use Rattle.calls.proofs.Calls.{image_long, image_fits, changing-refused, changing_accepted}
+use Rattle.transform_calls.proofs.Changes.{image_passed, matrix_passed}
 use borrow.Author.Rules.{rules}
 use Rattle.transform_calls.proofs.transforms.set_transform.Statement.{statement}
 use Rattle.transform_calls.proofs.transforms.set_transform.Tie as tie
@@ -20,17 +20,17 @@ returns-then-code-ne0 : tie.Need-returns-then-code-ne0
 returns-then-code-ne0 c = changing-refused _ _ _ _ c.change_code-code.ensures c.if-code-ne0.true
 
 state_of-s-requires : tie.Need-state_of-s-requires
-state_of-s-requires c κs = image_fits _ (image-passed _ _ _ (sym c.change_code-code.ensures ∙ c.if-code-ne0.false))
+state_of-s-requires c κs = image_fits _ (image_passed _ _ _ (sym c.change_code-code.ensures ∙ c.if-code-ne0.false))
 
 matrix_at-requires : tie.Need-matrix_at-requires
-matrix_at-requires c κs = matrix-passed _ _ _ (sym c.change_code-code.ensures ∙ c.if-code-ne0.false)
+matrix_at-requires c κs = matrix_passed _ _ _ (sym c.change_code-code.ensures ∙ c.if-code-ne0.false)
 
 set_transform-c-requires : tie.Need-set_transform-c-requires
 set_transform-c-requires c κs = search rules
 
 put_state-requires : tie.Need-put_state-requires
 put_state-requires c κs =
-    image_long _ (image-passed _ _ _ (sym c.change_code-code.ensures ∙ c.if-code-ne0.false))
+    image_long _ (image_passed _ _ _ (sym c.change_code-code.ensures ∙ c.if-code-ne0.false))
 
 shape_of-image : tie.Need-shape_of-image
 shape_of-image c = search rules
@@ -38,7 +38,7 @@ shape_of-image c = search rules
 returns : tie.Need-returns
 returns c =
     let a = c.args in
-    changing-accepted _ _ _ (sym c.change_code-code.ensures ∙ c.if-code-ne0.false)
+    changing_accepted _ _ _ (sym c.change_code-code.ensures ∙ c.if-code-ne0.false)
     (c.put_state.ensures
     ∙ ap (λ (t : TransformChanged). image_bytes t.state)
     (c.set_transform-c.ensures ∙ ap₂ (λ x m. set_transform x a.state m) c.state_of-s.ensures c.matrix_at.ensures))

@@ -5,7 +5,7 @@ use Rattle.codec.specs.Matrix.{matrix_bytes}
 use Rattle.codec.proofs.Laws.Matrix.{put-matrix_bytes}
 use Rattle.ff_state.specs.Transforms.{transform_of, transform_read_number, transform_read_matrix}
 use Rattle.calls.proofs.Answers.{length_right, length_wrong}
-use Rattle.calls.proofs.Calls.{image_fits, reading-nine, reading-own, reading-length, reading-done}
+use Rattle.calls.proofs.Calls.{image_fits, reading_nine, reading_own, reading-length, reading_done}
 use borrow.Author.Rules.{rules}
 use Rattle.transform_calls.proofs.transforms.transform.Statement.{statement}
 use Rattle.transform_calls.proofs.transforms.transform.Tie as tie
@@ -15,7 +15,7 @@ image_refused-requires c κs = search rules
 
 returns-then-image_refused : tie.Need-returns-then-image_refused
 returns-then-image_refused c =
-    reading-nine _ _ _ _ _ (sym c.image_refused.ensures ∙ c.if-image_refused.true)
+    reading_nine _ _ _ _ _ (sym c.image_refused.ensures ∙ c.if-image_refused.true)
 
 state_of-s-requires : tie.Need-state_of-s-requires
 state_of-s-requires c κs =
@@ -36,7 +36,7 @@ returns-in_default c =
     let at-image-refused = c in
     let entry = c in
     let a = entry.args in
-    reading-own _ _ _ _ _ (sym at-image-refused.image_refused.ensures ∙ c.if-image_refused.false)
+    reading_own _ _ _ _ _ (sym at-image-refused.image_refused.ensures ∙ c.if-image_refused.false)
     (ap transform_read_number (sym (c.transform-read.ensures ∙ ap (λ s. transform_of s a.state) c.state_of-s.ensures) ∙ c.in_default.is))
 
 returns-then-out-ne-MATRIX_BYTES : tie.Need-returns-then-out-ne-MATRIX_BYTES
@@ -65,7 +65,7 @@ returns c =
     let r = c in
     let t = r in
     let found = sym (r.transform-read.ensures ∙ ap (λ s. transform_of s a.state) r.state_of-s.ensures) ∙ r.in-Matrix.is in
-    reading-done _ _ _ _ _ (sym t.image_refused.ensures ∙ t.if-image_refused.false) (ap transform_read_number found)
+    reading_done _ _ _ _ _ (sym t.image_refused.ensures ∙ t.if-image_refused.false) (ap transform_read_number found)
     (length_right 64 _ c.if-out-ne-MATRIX_BYTES.false)
     (c.put_matrix.ensures ∙ put-matrix_bytes _ _ c.if-out-ne-MATRIX_BYTES.false ∙ ap (λ q. matrix_bytes (transform_read_matrix q)) (sym found))
 

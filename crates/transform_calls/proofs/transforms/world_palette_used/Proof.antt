@@ -2,7 +2,7 @@
 -- Assumes nothing.
 use mathlib.Core.Path.{refl, sym, ap, ◌∙◌}
 use Rattle.ff_state.specs.Transforms.{world_palette_used}
-use Rattle.calls.proofs.Calls.{image_fits, reading-nine, reading-done}
+use Rattle.calls.proofs.Calls.{image_fits, reading_nine, reading_done}
 use borrow.Author.Rules.{rules}
 use Rattle.transform_calls.proofs.transforms.world_palette_used.Statement.{statement}
 use Rattle.transform_calls.proofs.transforms.world_palette_used.Tie as tie
@@ -12,7 +12,7 @@ image_refused-requires c κs = search rules
 
 returns-then-image_refused : tie.Need-returns-then-image_refused
 returns-then-image_refused c =
-    reading-nine _ _ _ _ _ (sym c.before.image_refused.ensures ∙ c.if-image_refused.true)
+    reading_nine _ _ _ _ _ (sym c.before.image_refused.ensures ∙ c.if-image_refused.true)
 
 state_of-s-requires : tie.Need-state_of-s-requires
 state_of-s-requires c κs =
@@ -23,7 +23,7 @@ world_palette_used-requires c κs = search rules
 
 returns : tie.Need-returns
 returns c =
-    reading-done _ _ _ _ _ (sym c.before.before.before.image_refused.ensures ∙ c.before.before.if-image_refused.false) refl refl (c.world_palette_used.ensures ∙ ap world_palette_used c.before.state_of-s.ensures)
+    reading_done _ _ _ _ _ (sym c.before.before.before.image_refused.ensures ∙ c.before.before.if-image_refused.false) refl refl (c.world_palette_used.ensures ∙ ap world_palette_used c.before.state_of-s.ensures)
 
 pub world_palette_used_spec : {M : Type 1} → statement M
 world_palette_used_spec =

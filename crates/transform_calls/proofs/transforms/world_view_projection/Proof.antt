@@ -5,7 +5,7 @@ use Rattle.codec.specs.Matrix.{matrix_bytes}
 use Rattle.codec.proofs.Laws.Matrix.{put-matrix_bytes}
 use Rattle.ff_state.specs.Transforms.{world_view_projection}
 use Rattle.calls.proofs.Answers.{length_right, length_wrong}
-use Rattle.calls.proofs.Calls.{image_fits, reading-nine, reading-length, reading-done}
+use Rattle.calls.proofs.Calls.{image_fits, reading_nine, reading-length, reading_done}
 use borrow.Author.Rules.{rules}
 use Rattle.transform_calls.proofs.transforms.world_view_projection.Statement.{statement}
 use Rattle.transform_calls.proofs.transforms.world_view_projection.Tie as tie
@@ -15,7 +15,7 @@ image_refused-requires c κs = search rules
 
 returns-then-image_refused : tie.Need-returns-then-image_refused
 returns-then-image_refused c =
-    reading-nine _ _ _ _ _ (sym c.before.image_refused.ensures ∙ c.if-image_refused.true)
+    reading_nine _ _ _ _ _ (sym c.before.image_refused.ensures ∙ c.if-image_refused.true)
 
 returns-then-out-ne-MATRIX_BYTES : tie.Need-returns-then-out-ne-MATRIX_BYTES
 returns-then-out-ne-MATRIX_BYTES c =
@@ -38,7 +38,7 @@ returns : tie.Need-returns
 returns c =
     let at-state-of = c.before.before.before.before.before in
     let t = c.before.before.before.before.before.before in
-    reading-done _ _ _ _ _ (sym t.before.before.image_refused.ensures ∙ t.before.if-image_refused.false) refl (length_right 64 _ t.if-out-ne-MATRIX_BYTES.false)
+    reading_done _ _ _ _ _ (sym t.before.before.image_refused.ensures ∙ t.before.if-image_refused.false) refl (length_right 64 _ t.if-out-ne-MATRIX_BYTES.false)
     (c.before.before.put_matrix.ensures
     ∙ put-matrix_bytes _ _ t.if-out-ne-MATRIX_BYTES.false
     ∙ ap matrix_bytes (c.before.before.before.before.world_view_projection-m.ensures ∙ ap world_view_projection at-state-of.state_of-s.ensures))
