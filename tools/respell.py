@@ -71,9 +71,13 @@ def library_names():
     return found
 
 
+# Names that the rule would leave halfway, with a dash in their midst.
+WHOLE = "answer_of length_image_bytes length_list_at length_list_bytes minus_zero_written over_length_fits take_list_at".split()
+
+
 def snake(part):
     part = part.replace("NaN", "Nan")
-    part = re.sub(r"(?<=[a-z])(?=\d+$)", "_", part) if re.search("[A-Z]", part) else part
+    part = re.sub(r"(?<=[a-z])(?=\d+$)", "_", part) if part[:1].islower() and re.search("[A-Z]", part) else part
     return re.sub(r"(?<=[a-z0-9])([A-Z])", lambda m: "_" + m.group(1).lower(), part) if part[:1].islower() else part
 
 
@@ -85,15 +89,17 @@ def respelled(name, known):
     for before, part in zip(parts, parts[1:]):
         joins = before[:1].isupper() or part[:1].isupper() or (before in known and part in known)
         text += ("-" if joins else "_") + snake(part)
-    return text
+    whole = text.replace("-", "_")
+    return whole if whole in WHOLE else text
 
 
 def table(names, definitions, fields, made, library):
     known = definitions | LIBRARY_WORDS
+    functions = {m for p in glob.glob("crates/*/src/**/*.rt", recursive=True) for m in re.findall(r"\bfn (\w+)", open(p, encoding="utf-8").read())}
     every = names | fields
     wanted = {n: respelled(n, known) for n in every if n not in library and n not in made}
     # Nor does a name become one of the library's.
-    wanted = {n: to for n, to in wanted.items() if n != to and to not in library}
+    wanted = {n: to for n, to in wanted.items() if n != to and (to not in library or to in WHOLE)}
     taken = collections.defaultdict(set)
     for n in every:
         taken[wanted.get(n, n)].add(n)
@@ -107,7 +113,7 @@ def table(names, definitions, fields, made, library):
                     kept.append(n)
                     if wanted[n] == n:
                         del wanted[n]
-                elif n == to and n not in definitions and any(re.search("[A-Z]", other) for other in group):
+                elif n == to and n not in definitions | functions and any(re.search("[A-Z]", other) for other in group):
                     # port.py wrote it so, since the library has a name that it was.
                     wanted[n] = n.replace("_", "-")
                     kept.append(n)
