@@ -4,6 +4,7 @@ ghost use Rattle.std.specs.Prelude.{◌≡◌};
 ghost use Rattle.float32.specs.Cosine.{magnitude, folded, polynomial, cos_of};
 
 use crate::bits::{bits_of, of_bits};
+use crate::remainder::of_turn;
 
 // x with its sign cleared.
 fn magnitude_of(x: f32) -> f32
@@ -17,7 +18,7 @@ fn fold(y: f32) -> f32
     ensures { result ≡ folded y }
 {
     let turn = f32::from_bits(0x40C9_0FDB);
-    let r = y % turn;
+    let r = of_turn(y);
     if r > f32::from_bits(0x4049_0FDB) {
         return turn - r;
     }

@@ -5,6 +5,7 @@
 mod bits;
 mod cosine;
 mod larger;
+mod remainder;
 mod root;
 
 pub use bits::{bits_of, of_bits};

@@ -1,0 +1,6 @@
+-- After i turns the significand is moved up by i digits, and what is left of it over T's is kept.
+use Rattle.std.proofs.Common.{◌≡◌, ◌*◌, ◌%◌, ◌^◌}
+use Rattle.float32.proofs.remainder.moved_up.Given as goal
+
+abbrev pub invariant-loop-i : goal.invariant-loop-i
+invariant-loop-i l = l.r ≡ l.significand * 2 ^ l.i % 0xC9_0FDB
