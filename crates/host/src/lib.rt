@@ -1,4 +1,4 @@
-// The C interface: each call over byte slices, thin over the crates below.
+// The host's calls over byte slices, thin over the crates below; `host_c` exports them under their C names.
 #![tactic(auto)]
 
 pub mod bits;

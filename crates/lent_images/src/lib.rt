@@ -1,4 +1,4 @@
-// A state lent by reference, read from an image and written as one, under the names that C links.
+// A state lent by reference, read from an image and written as one; `lent_images_c` exports the calls.
 #![tactic(auto)]
 
 mod images;

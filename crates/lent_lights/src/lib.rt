@@ -1,4 +1,4 @@
-// The lights of a state lent by reference, under the names that C links.
+// The lights of a state lent by reference; `lent_lights_c` exports the calls.
 #![tactic(auto)]
 
 mod lights;

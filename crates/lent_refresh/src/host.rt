@@ -1,4 +1,4 @@
-// The C name. The key is eight numbers, as in `ff_refresh`.
+// The call as a host makes it, which `lent_refresh_c` exports. The key is eight numbers, as in `ff_refresh`.
 ghost use Rattle.std.specs.Prelude.{◌≡◌};
 ghost use Rattle.pack_calls.specs.Key.{key_of};
 ghost use Rattle.refresh_parts.specs.Mirror.{left, lent_refresh};

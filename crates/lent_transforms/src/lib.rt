@@ -1,4 +1,4 @@
-// The transforms of a state lent by reference, stored in place, under the names that C links.
+// The transforms of a state lent by reference, stored in place; `lent_transforms_c` exports them.
 #![tactic(auto)]
 
 mod transforms;

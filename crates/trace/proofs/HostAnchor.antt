@@ -1,4 +1,4 @@
--- What a host learns from the contracts of the calls over an image, and of the C names themselves: the number and the image are those that a step uses; and none asks anything.
+-- What a host learns from the contracts of the calls over an image, and of those of `host`, which the C names call under the same clauses: the number and the image are those that a step uses; and none asks anything.
 -- Assumes nothing.
 use Prim.Native.Nat.{ℕ}
 use mathlib.Core.Path.{◌≡◌}
@@ -135,7 +135,7 @@ pub call_refresh_anchored : (κs : Lfts 3) (a : Dens κs call-refresh-kinds.ps)
     ≡ ours.by_host a.0.now (key_of a.1.0 a.1.1.0 a.1.1.1.0 a.1.1.1.1.0 a.1.1.1.1.1.0 a.1.1.1.1.1.1.0 a.1.1.1.1.1.1.1.0 a.1.1.1.1.1.1.1.1.0) a.1.1.1.1.1.1.1.1.1.0.now a.1.1.1.1.1.1.1.1.1.1.0.now)
 call_refresh_anchored κs a = (tt, λ r e h. h)
 
--- ---- the C names
+-- ---- what the C names call
 
 pub ff_set_transform_anchored : (κs : Lfts 2) (a : Dens κs ff-set-transform-kinds.ps)
     → ff-set-transform-reads.Asked κs a
