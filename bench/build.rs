@@ -15,6 +15,4 @@ fn main() {
         println!("cargo:rerun-if-changed={}", archive.display());
         println!("cargo:rustc-link-lib=static={name}");
     }
-    // The cosine's `%` is C's fmodf.
-    println!("cargo:rustc-link-lib=m");
 }

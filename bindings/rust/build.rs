@@ -34,6 +34,4 @@ fn main() {
         }
         println!("cargo:rustc-link-lib=static={name}");
     }
-    // The cosine's `%` is C's fmodf.
-    println!("cargo:rustc-link-lib=m");
 }

@@ -16,8 +16,6 @@ fn main() {
         println!("cargo:rerun-if-changed={}", archive.display());
         println!("cargo:rustc-link-lib=static={name}");
     }
-    // The cosine's `%` is C's fmodf.
-    println!("cargo:rustc-link-lib=m");
 
     let rustc = env::var_os("RUSTC").expect("set by cargo");
     let answer = Command::new(rustc)
