@@ -97,7 +97,7 @@ def table(names, definitions, fields, made, library):
     known = definitions | LIBRARY_WORDS
     functions = {m for p in glob.glob("crates/*/src/**/*.rt", recursive=True) for m in re.findall(r"\bfn (\w+)", open(p, encoding="utf-8").read())}
     every = names | fields
-    wanted = {n: respelled(n, known) for n in every if n not in library and n not in made}
+    wanted = {n: respelled(n, known) for n in every if n not in library and (n not in made or respelled(n, known) in WHOLE)}
     # Nor does a name become one of the library's.
     wanted = {n: to for n, to in wanted.items() if n != to and (to not in library or to in WHOLE)}
     taken = collections.defaultdict(set)
