@@ -158,7 +158,7 @@ fn a_records_fields_lie_where_the_codec_has_them() {
     assert_eq!(beginning("MATERIAL_AT_"), places.len());
     assert_eq!(named("", &["MATERIAL_BYTES"]), [Material::BYTES]);
 
-    let places = fields_at("crates/image_lists/specs/Entry.antt", "entry_at bytes at =");
+    let places = fields_at("crates/codec/specs/Entry.antt", "entry_at bytes at =");
     assert_eq!(named("ENTRY_AT_", &["INDEX", "ENABLED", "LIGHT"]), places);
     assert_eq!(places[2] + Light::BYTES, ENTRY_BYTES);
     assert_eq!(

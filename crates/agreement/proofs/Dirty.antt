@@ -13,7 +13,8 @@ use Rattle.sections.specs.Sections.{all_bits}
 use Rattle.ff_state.specs.Dirty.{dirtied, mark_ff_vs_dirty, mark_number, take_ff_vs_dirty}
 use Rattle.ff_state.specs.Valid.{Valid}
 use Rattle.ff_state.specs.declared.state.FfState.{FfState}
-use Rattle.ff_state.specs.declared.dirty.Marked.{Marked}
+use Rattle.ff_state.specs.Changed.{Changed}
+use Rattle.ff_state.specs.declared.dirty.UnknownBits.{UnknownBits}
 use Rattle.ff_state.proofs.Marking.{by_mark}
 use Rattle.agreement.specs.Agrees.{Agrees, state_lights}
 
@@ -70,4 +71,4 @@ marked_agrees {s} {a} bits g = by_mark (λ r. Agrees r.state a) s bits (λ h. di
 pub mark-number : (s : FfState) (a : AbstractState) (bits : ℕ) → mark_number (mark_ff_vs_dirty s bits).answer ≡ abstract_refusal a (mark bits)
 unfolding mark_ff_vs_dirty mark_number abstract_refusal
 mark-number s a bits =
-    branch (λ (r : Marked). mark_number r.answer ≡ abstract_refusal a (mark bits)) (leb bits all_bits) _ _ (λ (t : leb bits all_bits ≡ true). rw t) (λ (t : leb bits all_bits ≡ false). rw t)
+    branch (λ (r : Changed UnknownBits). mark_number r.answer ≡ abstract_refusal a (mark bits)) (leb bits all_bits) _ _ (λ (t : leb bits all_bits ≡ true). rw t) (λ (t : leb bits all_bits ≡ false). rw t)

@@ -1,4 +1,5 @@
 -- Setting and enabling a light of any index: one law for both, over the change that each makes. Assumes nothing.
+use Rattle.std.specs.Prelude.{is_ok}
 use Prim.Native.Nat.{ℕ, ◌+◌, ◌≤◌, ◌<◌}
 use native.Mathlib.Omega.{arith}
 use mathlib.Core.Path.{◌≡◌, refl, sym, ap, ap₂, subst, ◌∙◌}
@@ -18,16 +19,18 @@ use Rattle.light_table.specs.Entry.{zero_entry, light_entry}
 use Rattle.ff_state.specs.State.{with_overflow_lights, with_overflow_count}
 use Rattle.ff_state.specs.Dirty.{dirtied}
 use Rattle.ff_state.specs.Slots.{set_slot, enable_slot}
-use Rattle.light_table.specs.Overflow.{used_count, inserted_at}
+use Rattle.light_table.specs.Overflow.{place, used_count, inserted_at}
 use Rattle.ff_state.specs.Overflow.{used}
 use Rattle.ff_state.specs.Lights.{lights_bit, found, replace_entry, insert_entry, change_entry, has_room, in_slot, set_light_at, set_light_enabled_at, flag}
 use Rattle.ff_state.specs.Valid.{Valid}
 use Rattle.ff_state.specs.declared.state.FfState.{FfState}
 use Rattle.light_table.specs.declared.entry.OverflowLight.{OverflowLight}
-use Rattle.ff_state.specs.declared.lights.LightChanged.{LightChanged}
-use Rattle.ff_state.specs.declared.lights.LightAnswer.TheVariants.{Full}
+use Rattle.ff_state.specs.Changed.{Changed}
+use Rattle.ff_state.specs.Changed as Changes
+use Rattle.ff_state.specs.declared.lights.TableFull.{TableFull}
 use Rattle.light_table.proofs.Sorted.{put_in}
 use Rattle.words.proofs.Words.{flag_small_cond}
+use Rattle.ff_state.proofs.Room.{change_is}
 use Rattle.agreement.specs.Agrees.{Agrees, defined_from, slot_defined, slot_entry, overflow_entry, state_lights}
 use Rattle.agreement.proofs.Dirty.{dirtied_valid, dirtied_agrees}
 use Rattle.agreement.proofs.Indices.{changed_below}
@@ -41,47 +44,47 @@ use Rattle.agreement.proofs.Lights.{LightOutcome, in-slot, replaced, inserted, r
 -- ---- what a call is, by its outcome
 
 module _ (s : FfState) (i : ℕ) (t : FfState) (change : OverflowLight → OverflowLight) (made : OverflowLight) where
-  abbrev call : LightChanged
+  abbrev call : Changed TableFull
   call = cond (ltb i 8) (in_slot t) (change_entry s (found s i) change made)
 
   call_slot : i < 8 → call ≡ in_slot t
   call_slot low = ap (λ (b : Bool). cond b (in_slot t) (change_entry s (found s i) change made)) (lt-ltb i 8 low)
 
-  call_entry : 8 ≤ i → (b : Bool) → (found s i).stored ≡ b → call ≡ cond b (replace_entry s (found s i).at (change (found_entry s i))) (insert_entry s (found s i).at made)
-  unfolding change_entry
+  call_entry : 8 ≤ i → (b : Bool) → is_ok (found s i) ≡ b → call ≡ cond b (replace_entry s (place (found s i)) (change (found_entry s i))) (insert_entry s (place (found s i)) made)
   call_entry high b h =
       ap (λ (b : Bool). cond b (in_slot t) (change_entry s (found s i) change made)) (le-ltb i 8 high)
-      ∙ ap (λ (b : Bool). cond b (replace_entry s (found s i).at (change (found_entry s i))) (insert_entry s (found s i).at made)) h
+      ∙ change_is s (found s i) change made
+      ∙ ap (λ (b : Bool). cond b (replace_entry s (place (found s i)) (change (found_entry s i))) (insert_entry s (place (found s i)) made)) h
 
-  insert_is : (b c : Bool) → ltb (used_count s.overflow_count) 56 ≡ b → ltb (found s i).at 56 ≡ c
-      → insert_entry s (found s i).at made ≡ cond (b && c) (in_slot (with_new_entry s i made)) (record { answer = Full; state = s })
+  insert_is : (b c : Bool) → ltb (used_count s.overflow_count) 56 ≡ b → ltb (place (found s i)) 56 ≡ c
+      → insert_entry s (place (found s i)) made ≡ cond (b && c) (in_slot (with_new_entry s i made)) (Changes.refused s (record {}))
   unfolding insert_entry
-  insert_is b c p q = ap₂ (λ (x y : Bool). cond (x && y) (in_slot (with_new_entry s i made)) (record { answer = Full; state = s })) p q
+  insert_is b c p q = ap₂ (λ (x y : Bool). cond (x && y) (in_slot (with_new_entry s i made)) (Changes.refused s (record {}))) p q
 
 -- what holds of the state after each outcome holds of the state after the call
 by_outcome : {s : FfState} → Valid s → (i : ℕ) (t : FfState) (change : OverflowLight → OverflowLight) (made : OverflowLight) (P : FfState → Type 0)
     → (i < 8 → has_room s i ≡ true → P (dirtied t lights_bit))
-    → (8 ≤ i → (found s i).stored ≡ true → has_room s i ≡ true → P (dirtied (with_entry s i (change (found_entry s i))) lights_bit))
-    → (8 ≤ i → (found s i).stored ≡ false → used_count s.overflow_count < 56 → has_room s i ≡ true → P (dirtied (with_new_entry s i made) lights_bit))
+    → (8 ≤ i → is_ok (found s i) ≡ true → has_room s i ≡ true → P (dirtied (with_entry s i (change (found_entry s i))) lights_bit))
+    → (8 ≤ i → is_ok (found s i) ≡ false → used_count s.overflow_count < 56 → has_room s i ≡ true → P (dirtied (with_new_entry s i made) lights_bit))
     → (has_room s i ≡ false → P s)
     → P (call s i t change made).state
 unfolding replace_entry
 by_outcome {s} v i t change made P slot stored absent none = go (light_outcome v i)
   where
-    there : (r : LightChanged) → call s i t change made ≡ r → P r.state → P (call s i t change made).state
-    there r e = subst (λ (x : LightChanged). P x.state) (sym e)
+    there : (r : Changed TableFull) → call s i t change made ≡ r → P r.state → P (call s i t change made).state
+    there r e = subst (λ (x : Changed TableFull). P x.state) (sym e)
 
     go : LightOutcome s i → P (call s i t change made).state
     go (in-slot low r) = there (in_slot t) (call_slot s i t change made low) (slot low r)
-    go (replaced high h r) = there (replace_entry s (found s i).at (change (found_entry s i))) (call_entry s i t change made high true h) (stored high h r)
+    go (replaced high h r) = there (replace_entry s (place (found s i)) (change (found_entry s i))) (call_entry s i t change made high true h) (stored high h r)
     go (inserted high h m r) =
         there (in_slot (with_new_entry s i made))
         (call_entry s i t change made high false h
-        ∙ insert_is s i t change made true true (lt-ltb (used_count s.overflow_count) 56 m) (lt-ltb (found s i).at 56 (omega (arith, place_most v i))))
+        ∙ insert_is s i t change made true true (lt-ltb (used_count s.overflow_count) 56 m) (lt-ltb (place (found s i)) 56 (omega (arith, place_most v i))))
         (absent high h m r)
     go (refused high h m r) =
-        there (record { answer = Full; state = s })
-        (call_entry s i t change made high false h ∙ insert_is s i t change made false (ltb (found s i).at 56) (le-ltb (used_count s.overflow_count) 56 (omega arith)) refl)
+        there (Changes.refused s (record {}))
+        (call_entry s i t change made high false h ∙ insert_is s i t change made false (ltb (place (found s i)) 56) (le-ltb (used_count s.overflow_count) 56 (omega arith)) refl)
         (none r)
 
 module _ {s : FfState} (v : Valid s) (i : ℕ) (t : FfState) (change : OverflowLight → OverflowLight) (made : OverflowLight)
@@ -100,10 +103,10 @@ module _ {s : FfState} (v : Valid s) (i : ℕ) (t : FfState) (change : OverflowL
       (made_alike : overflow_entry made ≡ new) where
     -- the entries in use after the change of an entry, or with one more
     abbrev changed_used : Bool → List OverflowLight
-    changed_used b = cond b (set (used s) (found s i).at (change (get_or (used s) (found s i).at zero_entry))) (put_in (found s i).at made (used s))
+    changed_used b = cond b (set (used s) (place (found s i)) (change (get_or (used s) (place (found s i)) zero_entry))) (put_in (place (found s i)) made (used s))
 
     overflow_changed : 8 ≤ i → (es : List OverflowLight) (n : ℕ)
-        → used (with_overflow_count (with_overflow_lights s es) n) ≡ changed_used (found s i).stored
+        → used (with_overflow_count (with_overflow_lights s es) n) ≡ changed_used (is_ok (found s i))
         → state_lights (with_overflow_count (with_overflow_lights s es) n) ≡ changed_at i change' new (state_lights s)
     unfolding state_lights found
     overflow_changed high es n e =
@@ -116,22 +119,22 @@ module _ {s : FfState} (v : Valid s) (i : ℕ) (t : FfState) (change : OverflowL
       abbrev changed : AbstractState
       changed = replaced_lights a (changed_at i change' new a.lights)
 
-      entry_agrees : 8 ≤ i → (found s i).stored ≡ true → Agrees (with_entry s i (change (found_entry s i))) changed
+      entry_agrees : 8 ≤ i → is_ok (found s i) ≡ true → Agrees (with_entry s i (change (found_entry s i))) changed
       entry_agrees high h =
-          let at = (found s i).at in
+          let at = place (found s i) in
           let e = found_entry s i in
           let lights =
           overflow_changed high (set s.overflow_lights at (change e)) s.overflow_count
           (replaced_used v i (change e) (own e (entry_index v i h)) (fits e (entry_fits v i h)) h
-          ∙ ap (λ (x : OverflowLight). set (used s) (found s i).at (change x)) (sym (entry-used v i h))
+          ∙ ap (λ (x : OverflowLight). set (used s) (place (found s i)) (change x)) (sym (entry-used v i h))
           ∙ ap changed_used (sym h))
           ∙ ap (changed_at i change' new) g.lights in
           record { matrices = g.matrices; material = g.material; lights = lights; highest = g.highest; states = g.states; texture-mask = g.texture-mask }
 
-      grown_agrees : 8 ≤ i → (found s i).stored ≡ false → used_count s.overflow_count < 56 → Agrees (with_new_entry s i made) changed
+      grown_agrees : 8 ≤ i → is_ok (found s i) ≡ false → used_count s.overflow_count < 56 → Agrees (with_new_entry s i made) changed
       grown_agrees high h m =
           let lights =
-          overflow_changed high (inserted_at (found s i).at made s.overflow_lights) (used_count s.overflow_count + 1)
+          overflow_changed high (inserted_at (place (found s i)) made s.overflow_lights) (used_count s.overflow_count + 1)
           (inserted_is v i made made-own made_fits h high m ∙ ap changed_used (sym h))
           ∙ ap (changed_at i change' new) g.lights in
           record { matrices = g.matrices; material = g.material; lights = lights; highest = g.highest; states = g.states; texture-mask = g.texture-mask }

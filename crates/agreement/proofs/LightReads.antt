@@ -1,4 +1,6 @@
 -- The reads of a light answer what the abstract state holds. (Of a transform: `Transforms` and `TransformReads`; of the material: a field of `Agrees`.) Assumes nothing.
+use Rattle.light_table.specs.Overflow.{place}
+use Rattle.std.specs.Prelude.{is_ok}
 use Prim.Native.Nat.{ℕ, ◌<◌}
 use mathlib.Core.Path.{◌≡◌, refl, sym, ap, ◌∙◌}
 use mathlib.Core.Bool.{Bool, true, false, cond, not, ◌&&◌}
@@ -44,7 +46,7 @@ module _ {s : FfState} {a : AbstractState} (v : Valid s) (g : Agrees s a) (i : �
   -- a read that is F of the slot's light where the slot is defined, and of the entry's where the index is stored
   read_is : {A : Type 0} (F : Option AbstractLight → A) (x y : A)
       → (i < 8 → x ≡ cond (slot_defined s i) (F (some (slot_entry s i))) (F none))
-      → (y ≡ cond (found s i).stored (F (some (overflow_entry (stored_entry s (found s i).at)))) (F none))
+      → (y ≡ cond (is_ok (found s i)) (F (some (overflow_entry (stored_entry s (place (found s i)))))) (F none))
       → cond (ltb i 8) x y ≡ F (abstract_light a i)
   unfolding abstract_light
   read_is {A} F x y low high =
@@ -52,7 +54,7 @@ module _ {s : FfState} {a : AbstractState} (v : Valid s) (g : Agrees s a) (i : �
       (λ (t : ltb i 8 ≡ true).
       let l = ltb-true i 8 t in
       low l ∙ read_if F (slot_defined s i) (slot_entry s i) ∙ ap F (sym (lookup_slot v i l)))
-      (λ (t : ltb i 8 ≡ false). high ∙ read_if F (found s i).stored (overflow_entry (stored_entry s (found s i).at)) ∙ ap F (sym (lookup_overflow v i (ltb-false i 8 t))))
+      (λ (t : ltb i 8 ≡ false). high ∙ read_if F (is_ok (found s i)) (overflow_entry (stored_entry s (place (found s i)))) ∙ ap F (sym (lookup_overflow v i (ltb-false i 8 t))))
       ∙ ap (λ ls. F (lookup i ls)) g.lights
 
   pub light-read : get_light_at s i ≡ light_read (abstract_light a i)
@@ -68,8 +70,8 @@ module _ {s : FfState} {a : AbstractState} (v : Valid s) (g : Agrees s a) (i : �
   enabled_read =
       read_is is_on _ _
       (λ low. on_if (slot_defined s i) (has_bit s.light_enabled i) (off_undefined v i low))
-      (and_if (found s i).stored (not (eqb (stored_entry s (found s i).at).enabled 0)))
+      (and_if (is_ok (found s i)) (not (eqb (stored_entry s (place (found s i))).enabled 0)))
 
   pub defined_read : is_light_defined_at s i ≡ is_there (abstract_light a i)
   unfolding is_light_defined_at is_there
-  defined_read = read_is is_there _ _ (λ low. is_if (slot_defined s i)) (is_if (found s i).stored)
+  defined_read = read_is is_there _ _ (λ low. is_if (slot_defined s i)) (is_if (is_ok (found s i)))

@@ -1,4 +1,5 @@
 -- Lights by any index: what a set or an enable makes of the state's lights, and when it is refused. Assumes nothing.
+use Rattle.std.specs.Prelude.{is_ok}
 use Prim.Native.Nat.{ℕ, ◌≤◌, ◌<◌}
 use native.Mathlib.Omega.{arith}
 use mathlib.Core.Path.{◌≡◌, refl, sym, ap, ap₂, ◌∙◌}
@@ -12,7 +13,7 @@ use Rattle.d3d9_model.specs.State.{AbstractState, AbstractLight}
 use Rattle.d3d9_model.specs.Lights.{lookup, is_there, count_beyond}
 use Rattle.d3d9_model.specs.Operations.{full}
 use Rattle.light_table.specs.Entry.{zero_entry}
-use Rattle.light_table.specs.Overflow.{used_count}
+use Rattle.light_table.specs.Overflow.{place, used_count}
 use Rattle.ff_state.specs.Overflow.{used}
 use Rattle.ff_state.specs.Lights.{found, stored_entry, has_room}
 use Rattle.ff_state.specs.Valid.{Valid}
@@ -33,21 +34,21 @@ module _ {s : FfState} (v : Valid s) where
       lookup_defined (slot_defined s) (slot_entry s) (λ k. refl) (map overflow_entry (used s)) i 0 8 (omega arith) low
       (entries_above i 8 (used s) v.overflow.sorted low)
 
-  pub lookup_overflow : (i : ℕ) → 8 ≤ i → lookup i (state_lights s) ≡ cond (found s i).stored (some (overflow_entry (stored_entry s (found s i).at))) none
+  pub lookup_overflow : (i : ℕ) → 8 ≤ i → lookup i (state_lights s) ≡ cond (is_ok (found s i)) (some (overflow_entry (stored_entry s (place (found s i))))) none
   unfolding state_lights found
   lookup_overflow i high =
       lookup_below i (defined_from (slot_defined s) (slot_entry s) 0 8) (map overflow_entry (used s)) (defined_below (slot_defined s) (slot_entry s) (λ k. refl) i 0 8 high)
       ∙ entries_lookup i 8 (used s) v.overflow.sorted
-      ∙ go (found s i).stored refl
+      ∙ go (is_ok (found s i)) refl
     where
-      go : (t : Bool) → (found s i).stored ≡ t
-          → cond t (some (overflow_entry (get_or (used s) (found s i).at zero_entry))) none ≡ cond t (some (overflow_entry (stored_entry s (found s i).at))) none
+      go : (t : Bool) → is_ok (found s i) ≡ t
+          → cond t (some (overflow_entry (get_or (used s) (place (found s i)) zero_entry))) none ≡ cond t (some (overflow_entry (stored_entry s (place (found s i))))) none
       go true e = ap (λ (x : OverflowLight). some (overflow_entry x)) (entry-used v i e)
       go false e = refl
 
-  there_overflow : (i : ℕ) → 8 ≤ i → is_there (lookup i (state_lights s)) ≡ (found s i).stored
+  there_overflow : (i : ℕ) → 8 ≤ i → is_there (lookup i (state_lights s)) ≡ is_ok (found s i)
   unfolding is_there
-  there_overflow i high = ap is_there (lookup_overflow i high) ∙ go (found s i).stored (overflow_entry (stored_entry s (found s i).at))
+  there_overflow i high = ap is_there (lookup_overflow i high) ∙ go (is_ok (found s i)) (overflow_entry (stored_entry s (place (found s i))))
     where
       go : (t : Bool) (l : AbstractLight) → is_there (cond t (some l) none) ≡ t
       go true l = refl
@@ -67,18 +68,18 @@ module _ {s : FfState} (v : Valid s) where
 
 pub data LightOutcome (s : FfState) (i : ℕ) : Type 0 where
   in-slot : i < 8 → has_room s i ≡ true → LightOutcome s i
-  replaced : 8 ≤ i → (found s i).stored ≡ true → has_room s i ≡ true → LightOutcome s i
-  inserted : 8 ≤ i → (found s i).stored ≡ false → used_count s.overflow_count < 56 → has_room s i ≡ true → LightOutcome s i
-  refused : 8 ≤ i → (found s i).stored ≡ false → used_count s.overflow_count ≡ 56 → has_room s i ≡ false → LightOutcome s i
+  replaced : 8 ≤ i → is_ok (found s i) ≡ true → has_room s i ≡ true → LightOutcome s i
+  inserted : 8 ≤ i → is_ok (found s i) ≡ false → used_count s.overflow_count < 56 → has_room s i ≡ true → LightOutcome s i
+  refused : 8 ≤ i → is_ok (found s i) ≡ false → used_count s.overflow_count ≡ 56 → has_room s i ≡ false → LightOutcome s i
 
 pub light_outcome : {s : FfState} → Valid s → (i : ℕ) → LightOutcome s i
 unfolding has_room
-light_outcome {s} v i = go (ltb i 8) (ltb (used_count s.overflow_count) 56) (found s i).stored refl refl refl
+light_outcome {s} v i = go (ltb i 8) (ltb (used_count s.overflow_count) 56) (is_ok (found s i)) refl refl refl
   where
-    has : (a b c : Bool) → ltb i 8 ≡ a → ltb (used_count s.overflow_count) 56 ≡ b → (found s i).stored ≡ c → has_room s i ≡ (a || (b || c))
+    has : (a b c : Bool) → ltb i 8 ≡ a → ltb (used_count s.overflow_count) 56 ≡ b → is_ok (found s i) ≡ c → has_room s i ≡ (a || (b || c))
     has a b c p q r = ap₂ (λ (x y : Bool). x || y) p (ap₂ (λ (x y : Bool). x || y) q r)
 
-    go : (a b c : Bool) → ltb i 8 ≡ a → ltb (used_count s.overflow_count) 56 ≡ b → (found s i).stored ≡ c → LightOutcome s i
+    go : (a b c : Bool) → ltb i 8 ≡ a → ltb (used_count s.overflow_count) 56 ≡ b → is_ok (found s i) ≡ c → LightOutcome s i
     go true b c p q r = in-slot (ltb-true i 8 p) (has true b c p q r)
     go false true true p q r = replaced (ltb-false i 8 p) r (has false true true p q r)
     go false false true p q r = replaced (ltb-false i 8 p) r (has false false true p q r)

@@ -1,5 +1,6 @@
 -- The dirty bits after an operation: those from before, and of an accepted one the bits of the sections that document 01 says it marks; no other.
 -- Each call is `dirtied` over a state with the same dirty word, and the sections of a place are those of its state number. Assumes nothing.
+use Rattle.std.specs.Prelude.{Result, Ok, Err}
 use Prim.Native.Nat.{ℕ, zero, suc, ◌+◌, ◌<◌}
 use native.Mathlib.Omega.{arith}
 use mathlib.Core.Path.{◌≡◌, refl, ap, ◌∙◌}
@@ -20,7 +21,6 @@ use Rattle.sections.specs.declared.sections.Section.{Section}
 use Rattle.sections.specs.declared.sections.Section.TheVariants as Sections
 use Rattle.light_table.specs.Overflow.{used_count}
 use Rattle.light_table.specs.declared.entry.OverflowLight.{OverflowLight}
-use Rattle.light_table.specs.declared.overflow.Found.{Found}
 use Rattle.d3d9_model.specs.State.{AbstractState}
 use Rattle.d3d9_model.specs.Operations.{Operation, set_transform, multiply_transform, set_material, set_light, enable_light, set_fog_start, set_fog_end, set_fog_density, set_ambient, set_texture_mask, mark, abstract_refusal}
 use Rattle.d3d9_model.specs.Marks.{transform_marks, among, marks_section}
@@ -34,7 +34,8 @@ use Rattle.ff_state.specs.Transforms.{slot_of, InRange, place_sections, place_bi
 use Rattle.ff_state.specs.Transforms as Transforms
 use Rattle.ff_state.specs.Operate.{operate}
 use Rattle.ff_state.specs.Valid.{Valid}
-use Rattle.ff_state.specs.declared.lights.LightChanged.{LightChanged}
+use Rattle.ff_state.specs.Changed.{Changed, refused}
+use Rattle.ff_state.specs.declared.lights.TableFull.{TableFull}
 use Rattle.ff_state.specs.declared.state.FfState.{FfState}
 use Rattle.ff_state.specs.declared.transforms.Place.{Place}
 use Rattle.ff_state.specs.declared.transforms.Place.TheVariants.{View, Projection, Texture, Palette}
@@ -104,7 +105,7 @@ transform-marks s n f = go (named n)
 -- ---- lights
 
 -- an answer about lights: accepted, it adds the bit of LIGHTS
-abbrev Adds : FfState → LightChanged → Type 0
+abbrev Adds : FfState → Changed TableFull → Type 0
 Adds s r = light_number r.answer ≡ 0 → dirty_word r.state ≡ bit_or (dirty_word s) lights_bit
 
 enabled_dirty : (s : FfState) (i : ℕ) (on : Bool) → dirty_word (enable_slot s i on) ≡ dirty_word s
@@ -112,11 +113,11 @@ unfolding enable_slot define_slot set_slot
 enabled_dirty s i on =
     branch (λ (t : FfState). dirty_word t ≡ dirty_word s) (has_bit s.light_defined_mask i) s (set_slot s i default_light) (λ e. refl) (λ e. refl)
 
-entry_adds : (s : FfState) (f : Found) (change : OverflowLight → OverflowLight) (made : OverflowLight) → Adds s (change_entry s f change made)
+entry_adds : (s : FfState) (f : Result ℕ ℕ) (change : OverflowLight → OverflowLight) (made : OverflowLight) → Adds s (change_entry s f change made)
 unfolding change_entry replace_entry insert_entry dirtied light_number
-entry_adds s f change made =
-    branch (Adds s) f.stored _ (insert_entry s f.at made) (λ t e. refl)
-    (λ t. branch (Adds s) (ltb (used_count s.overflow_count) 56 && ltb f.at 56) _ _ (λ u e. refl) (λ u e. absurd (omega arith)))
+entry_adds s (Ok at) change made = λ e. refl
+entry_adds s (Err at) change made =
+    branch (Adds s) (ltb (used_count s.overflow_count) 56 && ltb at 56) _ _ (λ u e. refl) (λ u e. absurd (omega arith))
 
 set_adds : (s : FfState) (i : ℕ) (l : D3DLIGHT9) → Adds s (set_light_at s i l)
 unfolding set_light_at set_slot dirtied
@@ -135,7 +136,7 @@ one_section τ =
 section_marks : (s : FfState) (τ σ : Section) → has_section (bit_or (dirty_word s) (bit_of τ)) σ ≡ (has_section (dirty_word s) σ || among (τ ∷ []) σ)
 section_marks s τ = added (dirty_word s) _ (bit_of τ) (among (τ ∷ [])) refl (one_section τ)
 
-light_marks : (s : FfState) (r : LightChanged) → Adds s r → light_number r.answer ≡ 0 → Marks s r.state (among (Sections.Lights ∷ []))
+light_marks : (s : FfState) (r : Changed TableFull) → Adds s r → light_number r.answer ≡ 0 → Marks s r.state (among (Sections.Lights ∷ []))
 light_marks s r adds z = added (dirty_word s) (dirty_word r.state) lights_bit (among (Sections.Lights ∷ [])) (adds z) (one_section Sections.Lights)
 
 -- ---- every operation

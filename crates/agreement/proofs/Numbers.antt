@@ -1,4 +1,5 @@
 -- The state numbers: what `slot_of` finds for one is what the abstract state knows. Assumes nothing.
+use Rattle.std.specs.Prelude.{Option, Some, None}
 use Prim.Native.Nat.{ℕ, ◌+◌, ◌<◌}
 use native.Mathlib.Omega.{arith}
 use mathlib.Core.Path.{◌≡◌, refl, subst}
@@ -10,8 +11,6 @@ use Rattle.d3d9_model.specs.Operations.{known}
 use Rattle.ff_state.specs.Transforms.{slot_of, InRange}
 use Rattle.ff_state.specs.declared.transforms.Place.{Place}
 use Rattle.ff_state.specs.declared.transforms.Place.TheVariants.{View, Projection, Texture, Palette}
-use Rattle.ff_state.specs.declared.transforms.Slot.{Slot}
-use Rattle.ff_state.specs.declared.transforms.Slot.TheVariants.{At, Unknown}
 
 -- the number of a place
 abbrev pub number : Place → ℕ
@@ -20,9 +19,9 @@ number Projection = 3
 number (Texture i) = 16 + i
 number (Palette i) = 256 + i
 
-abbrev Right : ℕ → Slot → Type 0
-Right n (At p) = InRange p × (n ≡ number p) × (known n ≡ true)
-Right n Unknown = known n ≡ false
+abbrev Right : ℕ → Option Place → Type 0
+Right n (Some p) = InRange p × (n ≡ number p) × (known n ≡ true)
+Right n None = known n ≡ false
 
 below : (n : ℕ) → n < 16 → eqb n 2 ≡ false → eqb n 3 ≡ false → known n ≡ false
 unfolding known
@@ -60,12 +59,12 @@ right n =
 
 -- a number names a place, and is then known, or none
 pub data Named (n : ℕ) : Type 0 where
-  place : (p : Place) → InRange p → n ≡ number p → slot_of n ≡ At p → known n ≡ true → Named n
-  no_place : slot_of n ≡ Unknown → known n ≡ false → Named n
+  place : (p : Place) → InRange p → n ≡ number p → slot_of n ≡ Some p → known n ≡ true → Named n
+  no_place : slot_of n ≡ None → known n ≡ false → Named n
 
 pub named : (n : ℕ) → Named n
 named n = go (slot_of n) refl (right n)
   where
-    go : (t : Slot) → slot_of n ≡ t → Right n (slot_of n) → Named n
-    go (At p) e r = let q = subst (Right n) e r in place p q.0 q.1 e q.2
-    go Unknown e r = no_place e (subst (Right n) e r)
+    go : (t : Option Place) → slot_of n ≡ t → Right n (slot_of n) → Named n
+    go (Some p) e r = let q = subst (Right n) e r in place p q.0 q.1 e q.2
+    go None e r = no_place e (subst (Right n) e r)

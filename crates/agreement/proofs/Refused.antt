@@ -1,5 +1,6 @@
 -- An operation that is refused leaves the state: each call's own definition says so.
 -- Assumes nothing.
+use Rattle.std.specs.Prelude.{Option, Some, None}
 use Prim.Native.Nat.{ℕ}
 use mathlib.Core.Path.{◌≡◌, refl, ap, ◌∙◌}
 use mathlib.Core.Bool.{Bool, true, false, cond}
@@ -8,11 +9,10 @@ use Rattle.d3d9_model.specs.Operations.{Operation, set_transform, multiply_trans
 use Rattle.ff_state.specs.Dirty.{mark_ff_vs_dirty, mark_number}
 use Rattle.ff_state.specs.Lights.{has_room, set_light_at, set_light_enabled_at, light_number}
 use Rattle.ff_state.specs.Transforms as Transforms
-use Rattle.ff_state.specs.declared.lights.LightChanged.{LightChanged}
+use Rattle.ff_state.specs.Changed.{Changed, refused}
+use Rattle.ff_state.specs.declared.lights.TableFull.{TableFull}
 use Rattle.ff_state.specs.declared.state.FfState.{FfState}
 use Rattle.ff_state.specs.declared.transforms.Place.{Place}
-use Rattle.ff_state.specs.declared.transforms.Slot.{Slot}
-use Rattle.ff_state.specs.declared.transforms.Slot.TheVariants.{At, Unknown}
 use Rattle.ff_state.proofs.Marking.{by_mark}
 use Rattle.ff_state.proofs.Room.{room_refusal, set-answer, set-refused, enable_answer, enable_refused}
 use Rattle.ff_state.specs.Operate.{operate}
@@ -21,17 +21,17 @@ use Rattle.ff_state.specs.Operate.{operate}
 abbrev Not0 : ℕ → Type 0
 Not0 n = n ≡ 0 → ⊥
 
-transform_same : (s : FfState) (p : Slot) (f : Place → D3DMATRIX) → Not0 (Transforms.transform_number (Transforms.change_at s p f).answer) → (Transforms.change_at s p f).state ≡ s
+transform_same : (s : FfState) (p : Option Place) (f : Place → D3DMATRIX) → Not0 (Transforms.transform_number (Transforms.change_at s p f).answer) → (Transforms.change_at s p f).state ≡ s
 unfolding Transforms.change_at Transforms.transform_number
-transform_same s (At p) f h = absurd (h refl)
-transform_same s Unknown f h = refl
+transform_same s (Some p) f h = absurd (h refl)
+transform_same s None f h = refl
 
-light_same : (s : FfState) (i : ℕ) (r : LightChanged) → light_number r.answer ≡ cond (has_room s i) 0 3 → (has_room s i ≡ false → r ≡ room_refusal s) → Not0 (light_number r.answer) → r.state ≡ s
+light_same : (s : FfState) (i : ℕ) (r : Changed TableFull) → light_number r.answer ≡ cond (has_room s i) 0 3 → (has_room s i ≡ false → r ≡ room_refusal s) → Not0 (light_number r.answer) → r.state ≡ s
 light_same s i r answer unchanged h = by_cases (has_room s i) refl
   where
     by_cases : (t : Bool) → has_room s i ≡ t → r.state ≡ s
     by_cases true e = absurd (h (answer ∙ rw e))
-    by_cases false e = ap (λ (x : LightChanged). x.state) (unchanged e)
+    by_cases false e = ap (λ (x : Changed TableFull). x.state) (unchanged e)
 
 mark_same : (s : FfState) (bits : ℕ) → Not0 (mark_number (mark_ff_vs_dirty s bits).answer) → (mark_ff_vs_dirty s bits).state ≡ s
 unfolding mark_number

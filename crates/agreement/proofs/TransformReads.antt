@@ -1,5 +1,6 @@
 -- What is read of the transforms is the abstract state's: a read's number and matrix, the palette that is used, and the product of world, view and projection.
 -- Assumes nothing.
+use Rattle.std.specs.Prelude.{Ok, Err}
 use Prim.Native.Nat.{ℕ, ◌≤◌}
 use native.Mathlib.Omega.{arith}
 use mathlib.Core.Path.{◌≡◌, refl, ap, ap₂, ◌∙◌}
@@ -13,16 +14,15 @@ use Rattle.d3d9_model.specs.Reads.{transform_read_refusal, abstract_read_matrix,
 use Rattle.ff_state.specs.Transforms.{transform_of, world_palette_used, world_view_projection, transform_read_number, transform_read_matrix}
 use Rattle.ff_state.specs.Valid.{Valid}
 use Rattle.ff_state.specs.declared.state.FfState.{FfState}
-use Rattle.ff_state.specs.declared.transforms.TransformRead.TheVariants.{Matrix, UnknownState}
 use Rattle.agreement.specs.Agrees.{Agrees}
 use Rattle.agreement.proofs.Transforms.{transform_read}
 
-number_if : (t : Bool) (m : D3DMATRIX) → transform_read_number (cond t (Matrix m) UnknownState) ≡ cond t 0 1
+number_if : (t : Bool) (m : D3DMATRIX) → transform_read_number (cond t (Ok m) (Err (record {}))) ≡ cond t 0 1
 unfolding transform_read_number
 number_if true m = refl
 number_if false m = refl
 
-matrix_if : (t : Bool) (m : D3DMATRIX) → transform_read_matrix (cond t (Matrix m) UnknownState) ≡ cond t m identity
+matrix_if : (t : Bool) (m : D3DMATRIX) → transform_read_matrix (cond t (Ok m) (Err (record {}))) ≡ cond t m identity
 unfolding transform_read_matrix
 matrix_if true m = refl
 matrix_if false m = refl

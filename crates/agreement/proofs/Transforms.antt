@@ -1,4 +1,5 @@
 -- Transforms: setting, multiplying and reading by the abstract state's numbers. Assumes nothing.
+use Rattle.std.specs.Prelude.{Ok, Err}
 use Prim.Native.Nat.{ℕ, ◌+◌, ◌-◌, ◌≤◌, ◌<◌, max}
 use native.Mathlib.Nat.{max-le}
 use native.Mathlib.Omega.{arith}
@@ -24,7 +25,6 @@ use Rattle.ff_state.specs.declared.state.FfState.{FfState}
 use Rattle.sections.specs.declared.sections.Section.{Section}
 use Rattle.ff_state.specs.declared.transforms.Place.{Place}
 use Rattle.ff_state.specs.declared.transforms.Place.TheVariants.{View, Projection, Texture, Palette}
-use Rattle.ff_state.specs.declared.transforms.TransformRead.TheVariants as Reads
 use Rattle.agreement.specs.Agrees.{Agrees, state_lights}
 use Rattle.agreement.proofs.Dirty.{dirtied_valid, dirtied_agrees}
 use Rattle.lemmas.proofs.Lists.{get_d_set, set_has}
@@ -238,10 +238,10 @@ module _ {s : FfState} {a : AbstractState} (v : Valid s) (g : Agrees s a) (n : �
       g
 
   -- a read refuses an unknown number, and gives the matrix of any other
-  pub transform_read : transform_of s n ≡ cond (known n) (Reads.Matrix (a.matrix n)) Reads.UnknownState
+  pub transform_read : transform_of s n ≡ cond (known n) (Ok (a.matrix n)) (Err (record {}))
   unfolding transform_of read_at
   transform_read = go (named n)
     where
-      go : Named n → transform_of s n ≡ cond (known n) (Reads.Matrix (a.matrix n)) Reads.UnknownState
-      go (place p h e q k) = rw (q, k) (ap Reads.Matrix (matrix-at g p h ∙ ap a.matrix (sym e)))
+      go : Named n → transform_of s n ≡ cond (known n) (Ok (a.matrix n)) (Err (record {}))
+      go (place p h e q k) = rw (q, k) (ap Ok (matrix-at g p h ∙ ap a.matrix (sym e)))
       go (no_place q k) = rw (q, k)

@@ -1,9 +1,10 @@
 -- What the read of a light answers for what the abstract state holds.
 use Rattle.std.proofs.Math.Option.{Option, none, some}
+use Rattle.std.specs.Prelude.{Some, None}
+use Rattle.std.specs.Prelude as Std
+use Rattle.d3d9_types.specs.declared.light.D3DLIGHT9.{D3DLIGHT9}
 use Rattle.d3d9_model.specs.State.{AbstractLight}
-use Rattle.ff_state.specs.declared.lights.LightRead.{LightRead}
-use Rattle.ff_state.specs.declared.lights.LightRead.TheVariants.{Light, Undefined}
 
-unfoldable pub light_read : Option AbstractLight → LightRead
-light_read none = Undefined
-light_read (some l) = Light l.light
+unfoldable pub light_read : Option AbstractLight → Std.Option D3DLIGHT9
+light_read none = None
+light_read (some l) = Some l.light

@@ -1,50 +1,24 @@
-// Matrices in a slice, 16 floats each.
-ghost use Rattle.std.specs.Prelude.{◌+◌, ◌≤◌, length};
-
+// A matrix as sixteen floats, by rows.
 use d3d9_types::{D3DMATRIX, Row};
 
-pub fn least(a: usize, b: usize) -> usize
-    ensures { (result ≤ a) × (result ≤ b) }
-{
-    if a < b { a } else { b }
-}
-
-fn row_at(s: &[f32], at: usize) -> Row
-    requires { at + 4 ≤ length s.now }
-{
-    Row {
-        x: s[at],
-        y: s[at + 1],
-        z: s[at + 2],
-        w: s[at + 3],
-    }
-}
-
-pub fn matrix_at(s: &[f32], at: usize) -> D3DMATRIX
-    requires { at + 16 ≤ length s.now }
-{
+pub fn matrix_of(s: &[f32; 16]) -> D3DMATRIX {
+    let [a, b, c, d, e, f, g, h, i, j, k, l, m, n, o, p] = *s;
     D3DMATRIX {
-        r0: row_at(s, at),
-        r1: row_at(s, at + 4),
-        r2: row_at(s, at + 8),
-        r3: row_at(s, at + 12),
+        r0: row(a, b, c, d),
+        r1: row(e, f, g, h),
+        r2: row(i, j, k, l),
+        r3: row(m, n, o, p),
     }
 }
 
-fn put_row(s: &mut [f32], at: usize, r: Row)
-    requires { at + 4 ≤ length s.old }
-{
-    s[at] = r.x;
-    s[at + 1] = r.y;
-    s[at + 2] = r.z;
-    s[at + 3] = r.w;
+fn row(x: f32, y: f32, z: f32, w: f32) -> Row {
+    Row { x, y, z, w }
 }
 
-pub fn put_matrix(s: &mut [f32], at: usize, m: D3DMATRIX)
-    requires { at + 16 ≤ length s.old }
-{
-    put_row(s, at, m.r0);
-    put_row(s, at + 4, m.r1);
-    put_row(s, at + 8, m.r2);
-    put_row(s, at + 12, m.r3);
+pub fn floats_of(m: D3DMATRIX) -> [f32; 16] {
+    [
+        m.r0.x, m.r0.y, m.r0.z, m.r0.w, m.r1.x, m.r1.y, m.r1.z, m.r1.w, m.r2.x, m.r2.y, m.r2.z, m
+            .r2
+            .w, m.r3.x, m.r3.y, m.r3.z, m.r3.w,
+    ]
 }

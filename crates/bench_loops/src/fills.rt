@@ -18,10 +18,8 @@ pub extern "C" fn bench_fill_wv(n: u32, x: f32, dst: &mut [f32]) -> u32 {
     let key = full_key();
     let mut v = x;
     let mut packed = 0u32;
-    let mut i = 0u32;
-    while i < n {
+    for i in 0..n {
         let at = place(i) * 16;
-        i += 1;
         let view = spread(v);
         s.view = view;
         let answer = fill_wv_section(s, key, &mut dst[at..at + 16]);
@@ -40,10 +38,8 @@ pub extern "C" fn bench_fill_proj(n: u32, x: f32, dst: &mut [f32]) -> u32 {
     let key = full_key();
     let mut v = x;
     let mut packed = 0u32;
-    let mut i = 0u32;
-    while i < n {
+    for i in 0..n {
         let at = place(i) * 16;
-        i += 1;
         let projection = spread(v);
         s.projection = projection;
         let answer = fill_proj_section(s, key, &mut dst[at..at + 16]);
@@ -62,10 +58,8 @@ pub extern "C" fn bench_fill_material(n: u32, x: f32, dst: &mut [f32]) -> u32 {
     let key = full_key();
     let mut v = x;
     let mut packed = 0u32;
-    let mut i = 0u32;
-    while i < n {
+    for i in 0..n {
         let at = place(i) * 20;
-        i += 1;
         let mut material = s.material;
         material.power = v;
         s.material = material;
@@ -85,10 +79,8 @@ pub extern "C" fn bench_fill_palette(n: u32, x: f32, dst: &mut [f32]) -> u32 {
     let key = full_key();
     let mut v = x;
     let mut packed = 0u32;
-    let mut i = 0u32;
-    while i < n {
+    for i in 0..n {
         let at = place(i) * 640;
-        i += 1;
         let view = spread(v);
         s.view = view;
         let answer = fill_palette_section(s, key, &mut dst[at..at + 640]);
@@ -107,10 +99,8 @@ pub extern "C" fn bench_fill_lights(n: u32, x: f32, dst: &mut [f32]) -> u32 {
     let key = full_key();
     let mut v = x;
     let mut packed = 0u32;
-    let mut i = 0u32;
-    while i < n {
+    for i in 0..n {
         let at = place(i) * 192;
-        i += 1;
         let view = spread(v);
         s.view = view;
         let answer = fill_lights_section(s, key, &mut dst[at..at + 192]);

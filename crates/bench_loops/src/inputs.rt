@@ -1,5 +1,5 @@
 // States and a key to pack.
-use d3d9_types::{D3DLIGHT_SPOT, D3DLIGHT9, D3DMATRIX, D3DVECTOR, Row, default_light};
+use d3d9_types::{D3DLIGHT_SPOT, D3DLIGHT9, D3DMATRIX, D3DVECTOR, Row};
 use ff_lights::{set_light_at, set_light_enabled_at};
 use ff_state::FfState;
 use sections::FfVsKey;
@@ -45,7 +45,7 @@ pub fn full_key() -> FfVsKey {
 }
 
 fn spot() -> D3DLIGHT9 {
-    let mut light = default_light();
+    let mut light = D3DLIGHT9::default();
     let direction = D3DVECTOR {
         x: 1.0,
         y: 2.0,
@@ -60,19 +60,12 @@ fn spot() -> D3DLIGHT9 {
 }
 
 fn with_spot(s: FfState, index: u32) -> FfState {
-    let set = set_light_at(s, index, spot());
-    let enabled = set_light_enabled_at(set.state, index, true);
-    enabled.state
+    set_light_at(s, index, spot())
+        .and_then(|t| set_light_enabled_at(t, index, true))
+        .unwrap_or(s)
 }
 
 // The fresh state with eight spot lights on.
 pub fn eight_spots() -> FfState {
-    let a = with_spot(FfState::new(), 0);
-    let b = with_spot(a, 1);
-    let c = with_spot(b, 2);
-    let d = with_spot(c, 3);
-    let e = with_spot(d, 4);
-    let f = with_spot(e, 5);
-    let g = with_spot(f, 6);
-    with_spot(g, 7)
+    (0..8).fold(FfState::new(), with_spot)
 }

@@ -4,9 +4,8 @@ use ff_state::FfState;
 use std::num::wrapping_add_u32;
 use words::with_bit;
 
-fn enable_one(s: FfState, index: u32, enabled: bool) -> FfState {
-    let changed = set_light_enabled_at(s, index, enabled);
-    changed.state
+fn enable_one(s: FfState, index: u32) -> FfState {
+    set_light_enabled_at(s, index, true).unwrap_or(s)
 }
 
 // The state with one of the slots 0 to 3 switched, another at each turn: without a change a read could
@@ -19,11 +18,8 @@ fn switched(s: FfState, i: u32) -> FfState {
 }
 
 fn enabled_lights(index: u32) -> FfState {
-    let a = enable_one(FfState::new(), 0, true);
-    let b = enable_one(a, 1, true);
-    let c = enable_one(b, 2, true);
-    let d = enable_one(c, 3, true);
-    enable_one(d, index, true)
+    let slots = (0..4).fold(FfState::new(), enable_one);
+    enable_one(slots, index)
 }
 
 // Of lights 0 to 3 and `index`.
@@ -31,11 +27,9 @@ fn enabled_lights(index: u32) -> FfState {
 pub extern "C" fn bench_vs_source_light_inputs(n: u32, index: u32) -> u32 {
     let mut s = enabled_lights(index);
     let mut sum = 0u32;
-    let mut i = 0u32;
-    while i < n {
+    for i in 0..n {
         s = switched(s, i);
         sum = wrapping_add_u32(sum, vs_source_light_inputs(s));
-        i += 1;
     }
     sum
 }

@@ -2,14 +2,18 @@
 -- Assumes nothing.
 use Prim.Native.Nat.{ℕ, zero, suc}
 use native.Mathlib.Omega.{arith}
-use mathlib.Core.Path.{◌≡◌, refl}
+use mathlib.Core.Path.{◌≡◌, refl, sym, ◌∙◌}
 use mathlib.Core.Logic.{◌⊎◌, inl, inr}
 use mathlib.Core.Bool.{Bool, true, false}
 use mathlib.Core.List.{List}
 use lib.Dec.{eqb}
 use lib.ListN.{length}
 use borrow.Author.Tests.{eq-eqb, ne_eqb, eqb-true}
+use Rattle.std.proofs.Common.{Ok, Err}
 use Rattle.calls.specs.Answer.{answer, answered, or_next, length_number}
+use Rattle.calls.specs.Refusal.{length_answer}
+use Rattle.calls.specs.declared.refusal.Refusal.{Refusal}
+use Rattle.calls.specs.declared.refusal.Refusal.TheVariants.{WrongLength}
 
 pub length_right : (n : ℕ) (l : List ℕ) → length l ≡ n → length_number n l ≡ 0
 unfolding length_number
@@ -26,6 +30,24 @@ length_is n l e = go (eqb (length l) n) refl
     go : (t : Bool) → eqb (length l) n ≡ t → length l ≡ n
     go true q = eqb-true (length l) n q
     go false q = absurd (omega (arith, rw q at e))
+
+-- the same of what `of_length` answers
+module _ (n : ℕ) (l : List ℕ) where
+  pub long_refused : (e : Refusal) → Err e ≡ length_answer n l → (e ≡ WrongLength) × (length l ≡ n → ⊥)
+  unfolding length_answer
+  long_refused e h = go (eqb (length l) n) refl
+    where
+      go : (t : Bool) → eqb (length l) n ≡ t → (e ≡ WrongLength) × (length l ≡ n → ⊥)
+      go true q = let told = rw q at h in absurd (cc told)
+      go false q = let told = rw q at h in (cc told, λ (r : length l ≡ n). let t = sym q ∙ eq-eqb (length l) n r in absurd (cc t))
+
+  pub long_taken : (u : Unit {0}) → Ok u ≡ length_answer n l → length l ≡ n
+  unfolding length_answer
+  long_taken u h = go (eqb (length l) n) refl
+    where
+      go : (t : Bool) → eqb (length l) n ≡ t → length l ≡ n
+      go true q = eqb-true (length l) n q
+      go false q = let told = rw q at h in absurd (cc told)
 
 module _ {A : Type 0} {number : ℕ} (new out : A) where
   pub refused : {k : ℕ} → number ≡ suc k → answer (suc k) out ≡ answered number new out

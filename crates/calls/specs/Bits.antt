@@ -1,12 +1,13 @@
 -- The calls on dirty bits of docs/INTERFACE.md: 9, then 7 for a mark above 255.
 use Rattle.std.specs.Prelude.{ℕ, List}
 use Rattle.ff_state.specs.Dirty.{mark_ff_vs_dirty, take_ff_vs_dirty, mark_number}
-use Rattle.ff_state.specs.declared.dirty.Marked.{Marked}
+use Rattle.ff_state.specs.Changed.{Changed}
+use Rattle.ff_state.specs.declared.dirty.UnknownBits.{UnknownBits}
 use Rattle.image.specs.Format.{image_bytes}
 use Rattle.calls.specs.Answer.{Answer}
 use Rattle.calls.specs.Call.{Called, called, changing, reading, none}
 
-abbrev pub mark_call : Marked → Called
+abbrev pub mark_call : Changed UnknownBits → Called
 mark_call c = called (mark_number c.answer) c.state
 
 abbrev pub ff_mark_ff_vs_dirty : List ℕ → ℕ → Answer (List ℕ)

@@ -1,11 +1,10 @@
 -- A host's call over an image. Document 01, 'State image': "Such a call reads the image, makes one call and writes the image back; 9 goes before the call's own refusals, and a refusal leaves the image as found."
 -- "A slice of another length than its item's is refused 4, after 9 and before anything else except the refusals of a wrong state or index."
-use Rattle.std.specs.Prelude.{ℕ, cond, List}
+use Rattle.std.specs.Prelude.{ℕ, cond, List, Err}
 use Rattle.ff_state.specs.declared.state.FfState.{FfState}
 use Rattle.image_reasons.specs.Reasons.{refused}
 use Rattle.image.specs.Format.{image_bytes}
-use Rattle.image.specs.Read.{state_of, read_number}
-use Rattle.image.specs.declared.read.ReadAnswer.TheVariants.{NotAnImage}
+use Rattle.image.specs.Read.{state_of, not_an_image, read_number}
 use Rattle.calls.specs.Answer.{Answer, answered, or_next}
 
 -- what a call on states gives: document 01's number, and the state afterwards
@@ -18,7 +17,7 @@ called n s = record { number = n; state = s }
 
 -- the code: reading's 9 for what is not an image, then the call's own number, then the number of a lent slice's length
 unfoldable pub call_code : (FfState → ℕ) → ℕ → List ℕ → ℕ
-call_code own len image = cond (refused image) (read_number NotAnImage) (or_next (own (state_of image)) len)
+call_code own len image = cond (refused image) (read_number (Err not_an_image)) (or_next (own (state_of image)) len)
 
 -- a call that changes the state, and the image left behind
 unfoldable pub changing : (FfState → Called) → ℕ → List ℕ → Answer (List ℕ)

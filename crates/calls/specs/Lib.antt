@@ -4,3 +4,4 @@ pub mod Images
 pub mod Materials
 pub mod Bits
 pub mod RenderStates
+pub mod Refusal

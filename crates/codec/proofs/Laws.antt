@@ -5,4 +5,5 @@ pub mod Color
 pub mod Vector
 pub mod Material
 pub mod Light
+pub mod Entry
 pub mod RenderStates

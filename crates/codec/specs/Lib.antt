@@ -6,4 +6,6 @@ pub mod Color
 pub mod Vector
 pub mod Material
 pub mod Light
+pub mod Entry
 pub mod RenderStates
+pub mod Sizes

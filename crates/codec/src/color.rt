@@ -1,21 +1,28 @@
 // Colours, as the rows that they are.
-ghost use Rattle.std.specs.Prelude.{◌≡◌, ◌+◌, ◌≤◌, length};
 ghost use Rattle.codec.specs.Color.{color_at, color_bytes};
-ghost use Rattle.codec.specs.Put.{put};
+ghost use Rattle.codec.specs.Sizes.{length-color_bytes};
 
-use crate::matrix::{put_row, row_at};
-use d3d9_types::{D3DCOLORVALUE, color_row, row_color};
+use crate::storage::Stored;
+use d3d9_types::{D3DCOLORVALUE, Row};
 
-pub fn color_at(s: &[u8], at: usize) -> D3DCOLORVALUE
-    requires { at + 16 ≤ length s.now }
-    ensures { result ≡ color_at s.now at }
-{
-    row_color(row_at(s, at))
-}
+impl Stored for D3DCOLORVALUE {
+    const SIZE: usize = 16;
 
-pub fn put_color(dst: &mut [u8], at: usize, c: D3DCOLORVALUE)
-    requires { at + 16 ≤ length dst.old }
-    ensures { dst.new ≡ put at (color_bytes c) dst.old }
-{
-    put_row(dst, at, color_row(c));
+    ghost SIZE = { 16 };
+
+    ghost bytes = { color_bytes };
+
+    ghost at = { color_at };
+
+    ghost wide = { length-color_bytes };
+
+    #[tactic(auto, unfolding(crate::specs::Color::color_at))]
+    fn read(s: &[u8], from: usize) -> D3DCOLORVALUE {
+        D3DCOLORVALUE::from(Row::read(s, from))
+    }
+
+    #[tactic(auto, unfolding(crate::specs::Color::color_bytes))]
+    fn put(self, dst: &mut [u8], from: usize) {
+        Row::from(self).put(dst, from);
+    }
 }

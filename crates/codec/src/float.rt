@@ -1,20 +1,28 @@
 // Floats by their bits. Every NaN pattern reads as the NaN, which is written 0x7FC00000.
-ghost use Rattle.std.specs.Prelude.{◌≡◌, ◌+◌, ◌≤◌, length};
+ghost use Rattle.d3d9_types.specs.Numbers.{float_fits};
 ghost use Rattle.codec.specs.Float.{float_at, float_bytes};
-ghost use Rattle.codec.specs.Put.{put};
+ghost use Rattle.codec.specs.Sizes.{length-float_bytes};
 
-use crate::little::{put_u32, u32_at};
+use crate::storage::Stored;
 
-pub fn f32_at(s: &[u8], at: usize) -> f32
-    requires { at + 4 ≤ length s.now }
-    ensures { result ≡ float_at s.now at }
-{
-    float32::of_bits(u32_at(s, at))
-}
+impl Stored for f32 {
+    const SIZE: usize = 4;
 
-pub fn put_f32(dst: &mut [u8], at: usize, x: f32)
-    requires { at + 4 ≤ length dst.old }
-    ensures { dst.new ≡ put at (float_bytes x) dst.old }
-{
-    put_u32(dst, at, float32::bits_of(x));
+    ghost SIZE = { 4 };
+
+    ghost bytes = { float_bytes };
+
+    ghost at = { float_at };
+
+    ghost wide = { length-float_bytes };
+
+    #[tactic(auto, unfolding(crate::specs::Float::float_at))]
+    fn read(s: &[u8], from: usize) -> f32 {
+        float32::of_bits(u32::read(s, from))
+    }
+
+    #[tactic(auto, unfolding(crate::specs::Float::float_bytes))]
+    fn put(self, dst: &mut [u8], from: usize) {
+        float32::bits_of(self).put(dst, from);
+    }
 }

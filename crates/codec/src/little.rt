@@ -1,7 +1,9 @@
 // Numbers of one, two and four bytes.
-ghost use Rattle.std.specs.Prelude.{◌≡◌, ◌+◌, ◌≤◌, ◌<◌, length, get_or};
+ghost use Rattle.std.specs.Prelude.{◌≡◌, ◌<◌, ◌^◌, length, get_or};
 ghost use Rattle.codec.specs.Little.{little_bytes, number_at};
-ghost use Rattle.codec.specs.Put.{put};
+ghost use Rattle.codec.specs.Sizes.{length-little_bytes};
+
+use crate::storage::Stored;
 
 fn byte_at(s: &[u8], i: usize) -> u32
     requires { i < length s.now }
@@ -10,56 +12,84 @@ fn byte_at(s: &[u8], i: usize) -> u32
     s[i] as u32
 }
 
-pub fn u8_at(s: &[u8], at: usize) -> u8
-    requires { at + 1 ≤ length s.now }
-    ensures { result ≡ number_at 1 s.now at }
-{
-    s[at]
+impl Stored for u8 {
+    const SIZE: usize = 1;
+
+    ghost SIZE = { 1 };
+
+    ghost bytes = { little_bytes 1 };
+
+    ghost at = { number_at 1 };
+
+    ghost wide = { length-little_bytes 1 };
+
+    #[tactic(auto, using(crate::proofs::Laws::Little::number_at_one))]
+    fn read(s: &[u8], from: usize) -> u8 {
+        s[from]
+    }
+
+    #[tactic(auto, using(crate::proofs::Put::one_store), unfolding(crate::specs::Little::little_bytes))]
+    fn put(self, dst: &mut [u8], from: usize) {
+        dst[from] = self;
+    }
 }
 
-pub fn u16_at(s: &[u8], at: usize) -> u16
-    requires { at + 2 ≤ length s.now }
-    ensures { result ≡ number_at 2 s.now at }
-{
-    let t = &s[at..at + 2];
-    (byte_at(t, 0) + 0x100 * byte_at(t, 1)) as u16
+impl Stored for u16 {
+    const SIZE: usize = 2;
+
+    ghost SIZE = { 2 };
+
+    ghost bytes = { little_bytes 2 };
+
+    ghost at = { number_at 2 };
+
+    ghost wide = { length-little_bytes 2 };
+
+    #[tactic(auto, using(crate::proofs::Laws::Little::number_of_two))]
+    fn read(s: &[u8], from: usize) -> u16 {
+        let two = &s[from..from + 2];
+        (byte_at(two, 0) + 0x100 * byte_at(two, 1)) as u16
+    }
+
+    #[tactic(auto, using(crate::proofs::Put::two_stores), unfolding(crate::specs::Little::little_bytes))]
+    fn put(self, dst: &mut [u8], from: usize) {
+        let low = self % 256;
+        let high = self / 256 % 256;
+        dst[from] = low as u8;
+        dst[from + 1] = high as u8;
+    }
 }
 
-// The part first, then its bytes at fixed places: the compiler makes one load of that.
-pub fn u32_at(s: &[u8], at: usize) -> u32
-    requires { at + 4 ≤ length s.now }
-    ensures { result ≡ number_at 4 s.now at }
-{
-    let t = &s[at..at + 4];
-    byte_at(t, 0) + 0x100 * byte_at(t, 1) + 0x1_0000 * byte_at(t, 2) + 0x100_0000 * byte_at(t, 3)
-}
+impl Stored for u32 {
+    const SIZE: usize = 4;
 
-pub fn put_u8(dst: &mut [u8], at: usize, n: u8)
-    requires { at + 1 ≤ length dst.old }
-    ensures { dst.new ≡ put at (little_bytes 1 n) dst.old }
-{
-    dst[at] = n;
-}
+    ghost SIZE = { 4 };
 
-pub fn put_u16(dst: &mut [u8], at: usize, n: u16)
-    requires { at + 2 ≤ length dst.old }
-    ensures { dst.new ≡ put at (little_bytes 2 n) dst.old }
-{
-    let low = n % 256;
-    let high = n / 256 % 256;
-    dst[at] = low as u8;
-    dst[at + 1] = high as u8;
-}
+    ghost bytes = { little_bytes 4 };
 
-pub fn put_u32(dst: &mut [u8], at: usize, n: u32)
-    requires { at + 4 ≤ length dst.old }
-    ensures { dst.new ≡ put at (little_bytes 4 n) dst.old }
-{
-    let b1 = n / 256;
-    let b2 = b1 / 256;
-    let b3 = b2 / 256;
-    dst[at] = (n % 256) as u8;
-    dst[at + 1] = (b1 % 256) as u8;
-    dst[at + 2] = (b2 % 256) as u8;
-    dst[at + 3] = (b3 % 256) as u8;
+    ghost at = { number_at 4 };
+
+    ghost wide = { length-little_bytes 4 };
+
+    // The part first, then its bytes at fixed places: the compiler makes one load of that. `u32::from_le_bytes` takes an
+    // array, which these four reads would have to make.
+    #[tactic(auto, using(crate::proofs::Laws::Little::number_of_four))]
+    fn read(s: &[u8], from: usize) -> u32 {
+        let four = &s[from..from + 4];
+        byte_at(four, 0)
+            + 0x100 * byte_at(four, 1)
+            + 0x1_0000 * byte_at(four, 2)
+            + 0x100_0000 * byte_at(four, 3)
+    }
+
+    #[tactic(auto, using(crate::proofs::Put::four_stores), unfolding(crate::specs::Little::little_bytes))]
+    fn put(self, dst: &mut [u8], from: usize) {
+        let b1 = self / 256;
+        let b2 = b1 / 256;
+        let b3 = b2 / 256;
+        dst[from] = (self % 256) as u8;
+        dst[from + 1] = (b1 % 256) as u8;
+        dst[from + 2] = (b2 % 256) as u8;
+        dst[from + 3] = (b3 % 256) as u8;
+    }
 }

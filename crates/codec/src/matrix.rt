@@ -1,51 +1,67 @@
-// Rows of four floats, and matrices of four rows.
-ghost use Rattle.std.specs.Prelude.{◌≡◌, ◌+◌, ◌≤◌, length};
+// Rows of four floats, and matrices of four rows. Each reads and puts its own four fields, as RenderStates does: no plainer in one place,
+// which would have to name the fields of all three.
 ghost use Rattle.codec.specs.Matrix.{row_at, row_bytes, matrix_at, matrix_bytes};
-ghost use Rattle.codec.specs.Put.{put};
+ghost use Rattle.codec.specs.Sizes.{length-matrix_bytes, length-row_bytes};
 
-use crate::float::{f32_at, put_f32};
+use crate::storage::Stored;
 use d3d9_types::{D3DMATRIX, Row};
 
-pub fn row_at(s: &[u8], at: usize) -> Row
-    requires { at + 16 ≤ length s.now }
-    ensures { result ≡ row_at s.now at }
-{
-    Row {
-        x: f32_at(s, at),
-        y: f32_at(s, at + 4),
-        z: f32_at(s, at + 8),
-        w: f32_at(s, at + 12),
+impl Stored for Row {
+    const SIZE: usize = 16;
+
+    ghost SIZE = { 16 };
+
+    ghost bytes = { row_bytes };
+
+    ghost at = { row_at };
+
+    ghost wide = { length-row_bytes };
+
+    #[tactic(auto, unfolding(crate::specs::Matrix::row_at))]
+    fn read(s: &[u8], from: usize) -> Row {
+        Row {
+            x: f32::read(s, from),
+            y: f32::read(s, from + 4),
+            z: f32::read(s, from + 8),
+            w: f32::read(s, from + 12),
+        }
+    }
+
+    #[tactic(auto, unfolding(crate::specs::Matrix::row_bytes))]
+    fn put(self, dst: &mut [u8], from: usize) {
+        self.x.put(dst, from);
+        self.y.put(dst, from + 4);
+        self.z.put(dst, from + 8);
+        self.w.put(dst, from + 12);
     }
 }
 
-pub fn put_row(dst: &mut [u8], at: usize, r: Row)
-    requires { at + 16 ≤ length dst.old }
-    ensures { dst.new ≡ put at (row_bytes r) dst.old }
-{
-    put_f32(dst, at, r.x);
-    put_f32(dst, at + 4, r.y);
-    put_f32(dst, at + 8, r.z);
-    put_f32(dst, at + 12, r.w);
-}
+impl Stored for D3DMATRIX {
+    const SIZE: usize = 64;
 
-pub fn matrix_at(s: &[u8], at: usize) -> D3DMATRIX
-    requires { at + 64 ≤ length s.now }
-    ensures { result ≡ matrix_at s.now at }
-{
-    D3DMATRIX {
-        r0: row_at(s, at),
-        r1: row_at(s, at + 16),
-        r2: row_at(s, at + 32),
-        r3: row_at(s, at + 48),
+    ghost SIZE = { 64 };
+
+    ghost bytes = { matrix_bytes };
+
+    ghost at = { matrix_at };
+
+    ghost wide = { length-matrix_bytes };
+
+    #[tactic(auto, unfolding(crate::specs::Matrix::matrix_at))]
+    fn read(s: &[u8], from: usize) -> D3DMATRIX {
+        D3DMATRIX {
+            r0: Row::read(s, from),
+            r1: Row::read(s, from + 16),
+            r2: Row::read(s, from + 32),
+            r3: Row::read(s, from + 48),
+        }
     }
-}
 
-pub fn put_matrix(dst: &mut [u8], at: usize, m: D3DMATRIX)
-    requires { at + 64 ≤ length dst.old }
-    ensures { dst.new ≡ put at (matrix_bytes m) dst.old }
-{
-    put_row(dst, at, m.r0);
-    put_row(dst, at + 16, m.r1);
-    put_row(dst, at + 32, m.r2);
-    put_row(dst, at + 48, m.r3);
+    #[tactic(auto, unfolding(crate::specs::Matrix::matrix_bytes))]
+    fn put(self, dst: &mut [u8], from: usize) {
+        self.r0.put(dst, from);
+        self.r1.put(dst, from + 16);
+        self.r2.put(dst, from + 32);
+        self.r3.put(dst, from + 48);
+    }
 }

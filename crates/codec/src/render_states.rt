@@ -1,30 +1,36 @@
-// Fog and the ambient colour, 16 bytes.
-ghost use Rattle.std.specs.Prelude.{◌≡◌, ◌+◌, ◌≤◌, length};
-ghost use Rattle.codec.specs.Put.{put};
+// Fog and the ambient colour, 16 bytes: four fields, as a row has (see there).
 ghost use Rattle.codec.specs.RenderStates.{states_at, states_bytes};
+ghost use Rattle.codec.specs.Sizes.{length-states_bytes};
 
-use crate::float::{f32_at, put_f32};
-use crate::little::{put_u32, u32_at};
+use crate::storage::Stored;
 use d3d9_types::RenderStates;
 
-pub fn states_at(s: &[u8], at: usize) -> RenderStates
-    requires { at + 16 ≤ length s.now }
-    ensures { result ≡ states_at s.now at }
-{
-    RenderStates {
-        fog_start: f32_at(s, at),
-        fog_end: f32_at(s, at + 4),
-        fog_density: f32_at(s, at + 8),
-        ambient: u32_at(s, at + 12),
-    }
-}
+impl Stored for RenderStates {
+    const SIZE: usize = 16;
 
-pub fn put_states(dst: &mut [u8], at: usize, r: RenderStates)
-    requires { at + 16 ≤ length dst.old }
-    ensures { dst.new ≡ put at (states_bytes r) dst.old }
-{
-    put_f32(dst, at, r.fog_start);
-    put_f32(dst, at + 4, r.fog_end);
-    put_f32(dst, at + 8, r.fog_density);
-    put_u32(dst, at + 12, r.ambient);
+    ghost SIZE = { 16 };
+
+    ghost bytes = { states_bytes };
+
+    ghost at = { states_at };
+
+    ghost wide = { length-states_bytes };
+
+    #[tactic(auto, unfolding(crate::specs::RenderStates::states_at))]
+    fn read(s: &[u8], from: usize) -> RenderStates {
+        RenderStates {
+            fog_start: f32::read(s, from),
+            fog_end: f32::read(s, from + 4),
+            fog_density: f32::read(s, from + 8),
+            ambient: u32::read(s, from + 12),
+        }
+    }
+
+    #[tactic(auto, unfolding(crate::specs::RenderStates::states_bytes))]
+    fn put(self, dst: &mut [u8], from: usize) {
+        self.fog_start.put(dst, from);
+        self.fog_end.put(dst, from + 4);
+        self.fog_density.put(dst, from + 8);
+        self.ambient.put(dst, from + 12);
+    }
 }

@@ -1,27 +1,34 @@
 // Positions and directions, three floats each.
-ghost use Rattle.std.specs.Prelude.{◌≡◌, ◌+◌, ◌≤◌, length};
-ghost use Rattle.codec.specs.Put.{put};
 ghost use Rattle.codec.specs.Vector.{vector_at, vector_bytes};
+ghost use Rattle.codec.specs.Sizes.{length-vector_bytes};
 
-use crate::float::{f32_at, put_f32};
+use crate::storage::Stored;
 use d3d9_types::D3DVECTOR;
 
-pub fn vector_at(s: &[u8], at: usize) -> D3DVECTOR
-    requires { at + 12 ≤ length s.now }
-    ensures { result ≡ vector_at s.now at }
-{
-    D3DVECTOR {
-        x: f32_at(s, at),
-        y: f32_at(s, at + 4),
-        z: f32_at(s, at + 8),
-    }
-}
+impl Stored for D3DVECTOR {
+    const SIZE: usize = 12;
 
-pub fn put_vector(dst: &mut [u8], at: usize, v: D3DVECTOR)
-    requires { at + 12 ≤ length dst.old }
-    ensures { dst.new ≡ put at (vector_bytes v) dst.old }
-{
-    put_f32(dst, at, v.x);
-    put_f32(dst, at + 4, v.y);
-    put_f32(dst, at + 8, v.z);
+    ghost SIZE = { 12 };
+
+    ghost bytes = { vector_bytes };
+
+    ghost at = { vector_at };
+
+    ghost wide = { length-vector_bytes };
+
+    #[tactic(auto, unfolding(crate::specs::Vector::vector_at))]
+    fn read(s: &[u8], from: usize) -> D3DVECTOR {
+        D3DVECTOR {
+            x: f32::read(s, from),
+            y: f32::read(s, from + 4),
+            z: f32::read(s, from + 8),
+        }
+    }
+
+    #[tactic(auto, unfolding(crate::specs::Vector::vector_bytes))]
+    fn put(self, dst: &mut [u8], from: usize) {
+        self.x.put(dst, from);
+        self.y.put(dst, from + 4);
+        self.z.put(dst, from + 8);
+    }
 }

@@ -1,4 +1,4 @@
--- The defaults as words, from document 01's text, so that a definition bent together with its code is refused here. Assumes nothing.
+-- The defaults as words, from document 01's text, so that a definition bent together with its code is refused here.
 use Prim.Native.Nat.{ℕ}
 use mathlib.Core.Path.{◌≡◌, refl}
 use mathlib.Core.List.{List, [], ◌∷◌}

@@ -1,5 +1,5 @@
 -- The numbers and records that the state begins with are f32 values, and a colour is one exactly if its row is. Each is a literal, so this computes.
--- Assumes nothing.
+--
 use lib.Dec.{lit<}
 use lib.Ieee.{fits}
 use Rattle.d3d9_types.specs.Numbers.{zero, one, float_fits}

@@ -1,2 +1,3 @@
 pub mod Fits
 mod Examples
+pub mod Literals

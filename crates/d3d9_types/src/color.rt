@@ -5,7 +5,7 @@ ghost use Rattle.d3d9_types.specs.Color.{color_row, row_color};
 use crate::matrix::Row;
 
 #[repr(C)]
-#[derive(Clone, Copy)]
+#[derive(Clone, Copy, Debug, PartialEq)]
 pub struct D3DCOLORVALUE {
     pub r: f32,
     pub g: f32,
@@ -13,24 +13,28 @@ pub struct D3DCOLORVALUE {
     pub a: f32,
 }
 
-pub fn color_row(c: D3DCOLORVALUE) -> Row
-    ensures { result ≡ color_row c }
-{
-    Row {
-        x: c.r,
-        y: c.g,
-        z: c.b,
-        w: c.a,
+impl From<D3DCOLORVALUE> for Row {
+    ghost from_gives = { λ c v. v ≡ color_row c };
+
+    fn from(c: D3DCOLORVALUE) -> Row {
+        Row {
+            x: c.r,
+            y: c.g,
+            z: c.b,
+            w: c.a,
+        }
     }
 }
 
-pub fn row_color(v: Row) -> D3DCOLORVALUE
-    ensures { result ≡ row_color v }
-{
-    D3DCOLORVALUE {
-        r: v.x,
-        g: v.y,
-        b: v.z,
-        a: v.w,
+impl From<Row> for D3DCOLORVALUE {
+    ghost from_gives = { λ v c. c ≡ row_color v };
+
+    fn from(v: Row) -> D3DCOLORVALUE {
+        D3DCOLORVALUE {
+            r: v.x,
+            g: v.y,
+            b: v.z,
+            a: v.w,
+        }
     }
 }

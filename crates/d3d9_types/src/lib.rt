@@ -9,9 +9,9 @@ mod render_states;
 mod transform;
 mod vector;
 
-pub use color::{D3DCOLORVALUE, color_row, row_color};
-pub use light::{D3DLIGHT_DIRECTIONAL, D3DLIGHT_POINT, D3DLIGHT_SPOT, D3DLIGHT9, default_light};
-pub use material::{D3DMATERIAL9, default_material};
+pub use color::D3DCOLORVALUE;
+pub use light::{D3DLIGHT_DIRECTIONAL, D3DLIGHT_POINT, D3DLIGHT_SPOT, D3DLIGHT9};
+pub use material::D3DMATERIAL9;
 pub use matrix::{D3DMATRIX, IDENTITY, Row, identity};
 pub use render_states::RenderStates;
 pub use transform::{D3DTS_PROJECTION, D3DTS_TEXTURE0, D3DTS_TEXTURE7, D3DTS_VIEW, D3DTS_WORLD};

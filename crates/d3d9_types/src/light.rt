@@ -14,7 +14,7 @@ pub const D3DLIGHT_DIRECTIONAL: u32 = 3;
 
 // The type is a number, kept as it is: any other than the three lights nothing.
 #[repr(C)]
-#[derive(Clone, Copy)]
+#[derive(Clone, Copy, Debug, PartialEq)]
 pub struct D3DLIGHT9 {
     pub type_: u32,
     pub diffuse: D3DCOLORVALUE,
@@ -31,41 +31,44 @@ pub struct D3DLIGHT9 {
     pub phi: f32,
 }
 
-pub fn default_light() -> D3DLIGHT9
-    ensures { result ≡ default_light }
-{
-    let black = D3DCOLORVALUE {
-        r: 0.0,
-        g: 0.0,
-        b: 0.0,
-        a: 0.0,
-    };
-    D3DLIGHT9 {
-        type_: D3DLIGHT_DIRECTIONAL,
-        diffuse: D3DCOLORVALUE {
-            r: 1.0,
-            g: 1.0,
-            b: 1.0,
+impl Default for D3DLIGHT9 {
+    ghost is_default = { λ l. l ≡ default_light };
+
+    #[tactic(auto, using(crate::proofs::Literals::zero_is, crate::proofs::Literals::one_is), unfolding(crate::specs::Light::default_light))]
+    fn default() -> D3DLIGHT9 {
+        let black = D3DCOLORVALUE {
+            r: 0.0,
+            g: 0.0,
+            b: 0.0,
             a: 0.0,
-        },
-        specular: black,
-        ambient: black,
-        position: D3DVECTOR {
-            x: 0.0,
-            y: 0.0,
-            z: 0.0,
-        },
-        direction: D3DVECTOR {
-            x: 0.0,
-            y: 0.0,
-            z: 1.0,
-        },
-        range: 0.0,
-        falloff: 0.0,
-        attenuation0: 0.0,
-        attenuation1: 0.0,
-        attenuation2: 0.0,
-        theta: 0.0,
-        phi: 0.0,
+        };
+        D3DLIGHT9 {
+            type_: D3DLIGHT_DIRECTIONAL,
+            diffuse: D3DCOLORVALUE {
+                r: 1.0,
+                g: 1.0,
+                b: 1.0,
+                a: 0.0,
+            },
+            specular: black,
+            ambient: black,
+            position: D3DVECTOR {
+                x: 0.0,
+                y: 0.0,
+                z: 0.0,
+            },
+            direction: D3DVECTOR {
+                x: 0.0,
+                y: 0.0,
+                z: 1.0,
+            },
+            range: 0.0,
+            falloff: 0.0,
+            attenuation0: 0.0,
+            attenuation1: 0.0,
+            attenuation2: 0.0,
+            theta: 0.0,
+            phi: 0.0,
+        }
     }
 }

@@ -5,7 +5,7 @@ ghost use Rattle.d3d9_types.specs.Material.{default_material};
 use crate::color::D3DCOLORVALUE;
 
 #[repr(C)]
-#[derive(Clone, Copy)]
+#[derive(Clone, Copy, Debug, PartialEq)]
 pub struct D3DMATERIAL9 {
     pub diffuse: D3DCOLORVALUE,
     pub ambient: D3DCOLORVALUE,
@@ -14,20 +14,23 @@ pub struct D3DMATERIAL9 {
     pub power: f32,
 }
 
-pub fn default_material() -> D3DMATERIAL9
-    ensures { result ≡ default_material }
-{
-    let black = D3DCOLORVALUE {
-        r: 0.0,
-        g: 0.0,
-        b: 0.0,
-        a: 0.0,
-    };
-    D3DMATERIAL9 {
-        diffuse: black,
-        ambient: black,
-        specular: black,
-        emissive: black,
-        power: 0.0,
+impl Default for D3DMATERIAL9 {
+    ghost is_default = { λ m. m ≡ default_material };
+
+    #[tactic(auto, using(crate::proofs::Literals::zero_is), unfolding(crate::specs::Material::default_material))]
+    fn default() -> D3DMATERIAL9 {
+        let black = D3DCOLORVALUE {
+            r: 0.0,
+            g: 0.0,
+            b: 0.0,
+            a: 0.0,
+        };
+        D3DMATERIAL9 {
+            diffuse: black,
+            ambient: black,
+            specular: black,
+            emissive: black,
+            power: 0.0,
+        }
     }
 }

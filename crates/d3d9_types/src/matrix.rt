@@ -4,7 +4,7 @@ ghost use Rattle.d3d9_types.specs.Matrix as Matrix;
 
 // Four floats: a row of a matrix, or a packed row.
 #[repr(C)]
-#[derive(Clone, Copy)]
+#[derive(Clone, Copy, Debug, PartialEq)]
 pub struct Row {
     pub x: f32,
     pub y: f32,
@@ -13,7 +13,7 @@ pub struct Row {
 }
 
 #[repr(C)]
-#[derive(Clone, Copy)]
+#[derive(Clone, Copy, Debug, PartialEq)]
 pub struct D3DMATRIX {
     pub r0: Row,
     pub r1: Row,
@@ -48,6 +48,8 @@ pub const IDENTITY: D3DMATRIX = D3DMATRIX {
     },
 };
 
+// A constant has no contract: this says what the one above is.
+#[tactic(auto, using(crate::proofs::Literals::zero_is, crate::proofs::Literals::one_is), unfolding(crate::specs::Matrix::identity))]
 pub fn identity() -> D3DMATRIX
     ensures { result ≡ Matrix.identity }
 {

@@ -1,5 +1,5 @@
 -- Directions and what they pack, computed, by their bits. The first three are the Rust's, who is the oracle there; the others come from exact fractions, rounded
--- step by step (`oracle/run scene` prints both). Assumes nothing.
+-- step by step (`oracle/run scene` prints both).
 use Prim.Native.Nat.{ℕ}
 use mathlib.Core.Path.{◌≡◌, refl}
 use mathlib.Core.Bool.{Bool, true, ◌&&◌}

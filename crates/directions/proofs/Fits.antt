@@ -1,4 +1,4 @@
--- Every component of a unit direction is an f32 value. Assumes nothing.
+-- Every component of a unit direction is an f32 value.
 use lib.Ieee.{binary32, lt}
 use lib.Ieee.Fits.{div-fits}
 use Rattle.d3d9_types.proofs.Fits.{zero_fits}

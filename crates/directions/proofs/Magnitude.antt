@@ -1,4 +1,4 @@
--- What the bits without the sign say of a float: whether it is finite, and how many binary digits its magnitude has in units of 2 ^ −149. Assumes nothing.
+-- What the bits without the sign say of a float: whether it is finite, and how many binary digits its magnitude has in units of 2 ^ −149.
 use Prim.Native.Nat.{ℕ, ◌+◌, ◌-◌, ◌*◌, ◌/◌, ◌^◌, ◌≤◌, ◌<◌, max}
 use native.Mathlib.Nat.{zero-add, le_of_eq, lt_of_lt_of_le, lt_of_le_of_lt, le_trans, le-max_left, le-max_right, max-eq_left, max-eq_right, max-le, le-div_iff_mul-le, le_of_suc-le-suc, lt_of_not-le, not-le_of_lt}
 use native.Mathlib.Omega.{arith}

@@ -1,5 +1,5 @@
 -- Each component of a scaled direction is its exact product with 2 ^ (150 − z), z the digits of the largest one, rounded once: here that product is a fraction of whole numbers.
--- `mul` rounds the exact product of its operands, and so does the power's, which need be no f32. Assumes nothing.
+-- `mul` rounds the exact product of its operands, and so does the power's, which need be no f32.
 use Prim.Native.Nat.{ℕ, ◌*◌, ◌^◌, ◌<◌}
 use native.Mathlib.Nat.{mul_left_comm, mul-pos}
 use mathlib.Core.Path.{◌≡◌, refl, ap, ◌∙◌}

@@ -1,4 +1,4 @@
--- Products with powers of two. Assumes nothing.
+-- Products with powers of two.
 use Prim.Native.Nat.{ℕ, zero, suc, ◌+◌, ◌-◌, ◌*◌, ◌/◌, ◌%◌, ◌^◌, ◌≤◌, ◌<◌}
 use native.Mathlib.Nat.{mul-one, one-mul, mul_assoc, mul_right_comm, mul-pos, lt_of_lt_of_le}
 use native.Mathlib.Omega.{arith}

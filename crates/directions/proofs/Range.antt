@@ -1,4 +1,4 @@
--- A scaled direction's largest component is at least 1 and below 2 in magnitude: 2 ^ 149 units of 2 ^ −149 or more, and below 2 ^ 150. Assumes nothing.
+-- A scaled direction's largest component is at least 1 and below 2 in magnitude: 2 ^ 149 units of 2 ^ −149 or more, and below 2 ^ 150.
 use Prim.Native.Nat.{ℕ, ◌+◌, ◌-◌, ◌*◌, ◌/◌, ◌%◌, ◌^◌, ◌≤◌, ◌<◌, max, compare}
 use native.Mathlib.Nat.{lt_of_not-le, not-le_of_lt, le_trans, le_of_eq, le_of_lt, lt_of_lt_of_le, lt_of_le_of_lt, le_of_suc-le-suc, eq-or-lt_of_le, le-max_left, le-max_right, max-le, max-eq_left, max-eq_right, mul_assoc, mul_right_comm, mul-pos, mul-le-mul_right, mul-lt-mul_of_pos_right, le_of_mul-le-mul_right, lt_of_mul-lt-mul_right, div-lt_iff_lt-mul, div-div-eq-div-mul, mul_comm}
 use native.Mathlib.Omega.{arith}

@@ -1,4 +1,4 @@
--- When a direction is scaled, and by which power, from its largest bits b. Assumes nothing.
+-- When a direction is scaled, and by which power, from its largest bits b.
 use Prim.Native.Nat.{ℕ, ◌+◌, ◌-◌, ◌/◌, ◌^◌, ◌≤◌, ◌<◌}
 use native.Mathlib.Nat.{lt_of_lt_of_le}
 use native.Mathlib.Omega.{arith}

@@ -1,5 +1,5 @@
 // Directions scaled by a power of two, so that their squares neither overflow nor vanish.
-ghost use Rattle.std.specs.Prelude.{◌≡◌, ◌≤◌, max};
+ghost use Rattle.std.specs.Prelude.{◌≡◌, ◌≤◌};
 ghost use Rattle.directions.specs.Scale as Scale;
 ghost use Rattle.directions.specs.Magnitude.{magnitude_bits, largest_bits, power_of_two};
 
@@ -14,25 +14,14 @@ fn magnitude_bits(x: f32) -> u32
     bits_of(x) % 0x8000_0000
 }
 
-fn larger(a: u32, b: u32) -> u32
-    ensures { result ≡ max a b }
-{
-    if a < b {
-        return b;
-    }
-    a
-}
-
 fn largest_bits(d: D3DVECTOR) -> u32
     ensures { result ≡ largest_bits d }
 {
-    larger(
-        magnitude_bits(d.x),
-        larger(magnitude_bits(d.y), magnitude_bits(d.z)),
-    )
+    magnitude_bits(d.x).max(magnitude_bits(d.y).max(magnitude_bits(d.z)))
 }
 
 // 2^(n - 127), of which the least is subnormal.
+#[tactic(auto, using(crate::proofs::Power::power_bits), unfolding(crate::specs::Magnitude::power_of_two))]
 fn power_of_two(n: u32) -> f32
     requires { n ≤ 254 }
     ensures { result ≡ power_of_two n }
@@ -49,26 +38,15 @@ pub fn scaled(d: D3DVECTOR) -> D3DVECTOR
     ensures { result ≡ Scale.scaled d }
 {
     let b = largest_bits(d);
-    if b == 0 {
-        return d;
-    }
-    if 0x7F80_0000 <= b {
+    if b == 0 || 0x7F80_0000 <= b {
         return d;
     }
     if b < 0x80_0000 {
         // All are subnormal, and the power may be above 2^127: the first product is exact.
         let p = power_of_two(254);
-        let q = power_of_two(118 + u32::leading_zeros(b));
-        return D3DVECTOR {
-            x: d.x * p * q,
-            y: d.y * p * q,
-            z: d.z * p * q,
-        };
+        let q = power_of_two(118 + b.leading_zeros());
+        return d.map(|c| c * p * q);
     }
     let p = power_of_two(254 - b / 0x80_0000);
-    D3DVECTOR {
-        x: d.x * p,
-        y: d.y * p,
-        z: d.z * p,
-    }
+    d.map(|c| c * p)
 }

@@ -11,6 +11,7 @@ use light_table::{
 use sections::{FfVsKey, light_limit};
 
 // The active slots, by their own numbers.
+#[tactic(auto, unfolding(ff_state::specs::Active::light_active_mask))]
 pub fn light_active_mask(s: FfState) -> u8
     ensures { result ≡ light_active_mask s }
 {
@@ -22,24 +23,20 @@ pub fn resolve_active_lights(s: FfState, key: FfVsKey) -> ActiveLights
     ensures { result ≡ resolve_active_lights s (light_limit key) }
 {
     let limit = light_limit(key);
-    let lights = s.lights;
     let mask = s.light_set_mask & s.light_enabled;
     if s.overflow_count == 0 {
-        return push_slots(lights, mask, limit);
+        return push_slots(s.lights, mask, limit);
     }
-    let entries = s.overflow_lights;
-    active_lights(lights, mask, entries, s.overflow_count, limit)
+    active_lights(s.lights, mask, s.overflow_lights, s.overflow_count, limit)
 }
 
 pub fn compacted_light_masks(s: FfState) -> LightMasks
     ensures { result ≡ compacted_light_masks s }
 {
-    let lights = s.lights;
-    let entries = s.overflow_lights;
     let list = active_lights(
-        lights,
+        s.lights,
         s.light_set_mask & s.light_enabled,
-        entries,
+        s.overflow_lights,
         s.overflow_count,
         8,
     );
@@ -51,6 +48,7 @@ pub fn compacted_light_masks(s: FfState) -> LightMasks
 }
 
 // What a key is made from: the raw masks while no overflow light is stored, else the compacted ones and 1.
+#[tactic(auto, unfolding(ff_state::specs::Active::vs_source_light_inputs, ff_state::specs::Active::light_active_mask))]
 pub fn vs_source_light_inputs(s: FfState) -> u32
     ensures { result ≡ vs_source_light_inputs s }
 {

@@ -1,5 +1,5 @@
 // The state's calls on lights, by value: eight slots with their masks, the table from index 8 on, and
-// the active lights. A refused call returns the state as it was.
+// the active lights. A refused call returns the refusal, and the state is as it was.
 #![tactic(auto)]
 
 mod active;
@@ -10,6 +10,6 @@ pub use active::{
     compacted_light_masks, light_active_mask, resolve_active_lights, vs_source_light_inputs,
 };
 pub use lights::{
-    get_light_at, has_room, is_light_defined_at, is_light_enabled_at, set_light_at,
+    get_light_at, has_room, is_light_defined_at, is_light_enabled_at, search, set_light_at,
     set_light_enabled_at,
 };

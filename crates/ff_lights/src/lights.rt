@@ -1,174 +1,129 @@
 // Lights by any index: eight slots, then the overflow entries.
-ghost use Rattle.std.specs.Prelude.{◌≡◌, ◌≤◌, ◌<◌};
-ghost use Rattle.ff_state.specs.Lights.{has_room, set_light_at, set_light_enabled_at, get_light_at, is_light_enabled_at, is_light_defined_at};
-ghost use Rattle.ff_state.specs.Lights.{replace_entry, insert_entry};
+ghost use Rattle.std.specs.Prelude.{◌≡◌, ◌≤◌, ◌<◌, IfOk, IfErr};
+ghost use Rattle.ff_state.specs.Changed.{changed};
+ghost use Rattle.ff_state.specs.Lights.{found, has_room, set_light_at, set_light_enabled_at, get_light_at, is_light_enabled_at, is_light_defined_at};
+ghost use Rattle.ff_state.specs.Lights.{insert_entry};
 
 use crate::slots::{enable_slot, set_slot};
-use d3d9_types::{D3DLIGHT9, default_light};
-use ff_state::{FfState, LightAnswer, LightChanged, LightRead, with_dirty};
-use light_table::{OverflowLight, find, inserted_at, used_count};
+use d3d9_types::D3DLIGHT9;
+use ff_state::{FfState, TableFull, with_dirty};
+use light_table::{OverflowLight, find, insert_at, used_count};
 use sections::LIGHTS;
 use words::has_bit;
 
-// The state with another entry in the place of one that is stored.
-fn replace_entry(s: FfState, at: usize, e: OverflowLight) -> LightChanged
-    requires { at < 56 }
-    ensures { result ≡ replace_entry s at e }
+// Ok of where the entry of an index stands, or Err of where it would stand.
+pub fn search(s: &FfState, index: u32) -> Result<usize, usize>
+    ensures value { result ≡ found s.now index }
+    ensures stored { IfOk result (λ at. at < 56) }
+    ensures absent { IfErr result (λ at. at ≤ 56) }
 {
-    let mut t = s;
-    t.overflow_lights[at] = e;
-    LightChanged {
-        answer: LightAnswer::Accepted,
-        state: with_dirty(t, LIGHTS),
-    }
+    find(&s.overflow_lights[..used_count(s.overflow_count)], index)
 }
 
 // The state with one more entry, if there is room.
-fn insert_entry(mut s: FfState, at: usize, e: OverflowLight) -> LightChanged
+#[tactic(auto, unfolding(ff_state::specs::Lights::insert_entry, ff_state::specs::Changed::changed))]
+fn insert_entry(mut s: FfState, at: usize, e: OverflowLight) -> Result<FfState, TableFull>
     requires { at ≤ 56 }
-    ensures { result ≡ insert_entry s at e }
+    ensures { changed s result ≡ insert_entry s at e }
 {
     let in_use = used_count(s.overflow_count);
-    if in_use < 56 {
-        if at < 56 {
-            let entries = s.overflow_lights;
-            let grown = inserted_at(entries, at, e);
-            s.overflow_lights = grown;
-            s.overflow_count = (in_use + 1) as u16;
-            s = with_dirty(s, LIGHTS);
-            return LightChanged {
-                answer: LightAnswer::Accepted,
-                state: s,
-            };
-        }
+    if in_use < 56 && at < 56 {
+        insert_at(&mut s.overflow_lights, at, e);
+        s.overflow_count = (in_use + 1) as u16;
+        return Ok(with_dirty(s, LIGHTS));
     }
-    LightChanged {
-        answer: LightAnswer::Full,
-        state: s,
-    }
+    Err(TableFull)
 }
 
 // Whether a light of this index is stored or can be.
+#[tactic(auto, unfolding(ff_state::specs::Lights::has_room))]
 pub fn has_room(s: FfState, index: u32) -> bool
     ensures { result ≡ has_room s index }
 {
-    if index < 8 {
-        return true;
-    }
-    let used = used_count(s.overflow_count);
-    if used < 56 {
-        return true;
-    }
-    let entries = s.overflow_lights;
-    let found = find(entries, used, index);
-    found.stored
+    index < 8 || used_count(s.overflow_count) < 56 || search(&s, index).is_ok()
 }
 
-pub fn set_light_at(mut s: FfState, index: u32, light: D3DLIGHT9) -> LightChanged
-    ensures { result ≡ set_light_at s index light }
+#[tactic(auto, unfolding(ff_state::specs::Lights::set_light_at, ff_state::specs::Lights::change_entry, ff_state::specs::Lights::replace_entry, ff_state::specs::Changed::changed))]
+pub fn set_light_at(mut s: FfState, index: u32, light: D3DLIGHT9) -> Result<FfState, TableFull>
+    ensures { changed s result ≡ set_light_at s index light }
 {
     if index < 8 {
-        s = set_slot(s, index as usize, light);
-        s = with_dirty(s, LIGHTS);
-        return LightChanged {
-            answer: LightAnswer::Accepted,
-            state: s,
-        };
+        return Ok(with_dirty(set_slot(s, index as usize, light), LIGHTS));
     }
-    let entries = s.overflow_lights;
-    let found = find(entries, used_count(s.overflow_count), index);
-    let at = found.at;
-    if found.stored {
-        let mut e = entries[at];
-        e.light = light;
-        return replace_entry(s, at, e);
+    match search(&s, index) {
+        Ok(at) => {
+            s.overflow_lights[at].light = light;
+            Ok(with_dirty(s, LIGHTS))
+        }
+        Err(at) => insert_entry(
+            s,
+            at,
+            OverflowLight {
+                index,
+                enabled: 0,
+                light,
+            },
+        ),
     }
-    insert_entry(
-        s,
-        at,
-        OverflowLight {
-            index,
-            enabled: 0,
-            light,
-        },
-    )
 }
 
-pub fn set_light_enabled_at(mut s: FfState, index: u32, enabled: bool) -> LightChanged
-    ensures { result ≡ set_light_enabled_at s index enabled }
+#[tactic(auto, unfolding(ff_state::specs::Lights::set_light_enabled_at, ff_state::specs::Lights::change_entry, ff_state::specs::Lights::replace_entry, ff_state::specs::Lights::flag, ff_state::specs::Changed::changed))]
+pub fn set_light_enabled_at(mut s: FfState, index: u32, enabled: bool) -> Result<FfState, TableFull>
+    ensures { changed s result ≡ set_light_enabled_at s index enabled }
 {
     if index < 8 {
-        s = enable_slot(s, index as usize, enabled);
-        s = with_dirty(s, LIGHTS);
-        return LightChanged {
-            answer: LightAnswer::Accepted,
-            state: s,
-        };
+        return Ok(with_dirty(enable_slot(s, index as usize, enabled), LIGHTS));
     }
-    let entries = s.overflow_lights;
-    let found = find(entries, used_count(s.overflow_count), index);
-    let at = found.at;
-    if found.stored {
-        let mut e = entries[at];
-        e.enabled = enabled as u32;
-        return replace_entry(s, at, e);
+    match search(&s, index) {
+        Ok(at) => {
+            s.overflow_lights[at].enabled = enabled as u32;
+            Ok(with_dirty(s, LIGHTS))
+        }
+        Err(at) => insert_entry(
+            s,
+            at,
+            OverflowLight {
+                index,
+                enabled: enabled as u32,
+                light: D3DLIGHT9::default(),
+            },
+        ),
     }
-    insert_entry(
-        s,
-        at,
-        OverflowLight {
-            index,
-            enabled: enabled as u32,
-            light: default_light(),
-        },
-    )
 }
 
-pub fn get_light_at(s: FfState, index: u32) -> LightRead
+#[tactic(auto, unfolding(ff_state::specs::Lights::get_light_at))]
+pub fn get_light_at(s: FfState, index: u32) -> Option<D3DLIGHT9>
     ensures { result ≡ get_light_at s index }
 {
     if index < 8 {
         if has_bit(s.light_defined_mask, index) {
-            let i = index as usize;
-            let lights = s.lights;
-            let light = lights[i];
-            return LightRead::Light(light);
+            return Some(s.lights[index as usize]);
         }
-        return LightRead::Undefined;
+        return None;
     }
-    let entries = s.overflow_lights;
-    let found = find(entries, used_count(s.overflow_count), index);
-    if found.stored {
-        let at = found.at;
-        let e = entries[at];
-        let light = e.light;
-        return LightRead::Light(light);
-    }
-    LightRead::Undefined
+    let at = search(&s, index).ok()?;
+    Some(s.overflow_lights[at].light)
 }
 
+#[tactic(auto, unfolding(ff_state::specs::Lights::is_light_enabled_at))]
 pub fn is_light_enabled_at(s: FfState, index: u32) -> bool
     ensures { result ≡ is_light_enabled_at s index }
 {
     if index < 8 {
         return has_bit(s.light_enabled, index);
     }
-    let entries = s.overflow_lights;
-    let found = find(entries, used_count(s.overflow_count), index);
-    if found.stored {
-        let at = found.at;
-        return entries[at].enabled != 0;
+    match search(&s, index) {
+        Ok(at) => s.overflow_lights[at].enabled != 0,
+        Err(_) => false,
     }
-    false
 }
 
+#[tactic(auto, unfolding(ff_state::specs::Lights::is_light_defined_at))]
 pub fn is_light_defined_at(s: FfState, index: u32) -> bool
     ensures { result ≡ is_light_defined_at s index }
 {
     if index < 8 {
         return has_bit(s.light_defined_mask, index);
     }
-    let entries = s.overflow_lights;
-    let found = find(entries, used_count(s.overflow_count), index);
-    found.stored
+    search(&s, index).is_ok()
 }

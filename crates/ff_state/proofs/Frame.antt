@@ -36,12 +36,11 @@ use Rattle.sections.specs.declared.sections.Section.{Section}
 use Rattle.sections.specs.declared.sections.Section.TheVariants.{Wv, Proj, Material, Lights, Palette, Tt, Fog, Ambient}
 use Rattle.ff_state.specs.declared.state.FfState.{FfState}
 use Rattle.light_table.specs.declared.entry.OverflowLight.{OverflowLight}
-use Rattle.light_table.specs.declared.overflow.Found.{Found}
-use Rattle.ff_state.specs.declared.lights.LightChanged.{LightChanged}
+use Rattle.std.specs.Prelude.{Option, Some, None, Result, Ok, Err}
+use Rattle.ff_state.specs.Changed.{Changed}
+use Rattle.ff_state.specs.declared.lights.TableFull.{TableFull}
 use Rattle.ff_state.specs.declared.transforms.Place.{Place}
 use Rattle.ff_state.specs.declared.transforms.Place.TheVariants as Places
-use Rattle.ff_state.specs.declared.transforms.Slot.{Slot}
-use Rattle.ff_state.specs.declared.transforms.Slot.TheVariants.{At, Unknown}
 use Rattle.words.proofs.Words.{has_or}
 use Rattle.ff_state.proofs.Marking.{by_mark}
 
@@ -117,10 +116,10 @@ placed_same s (Places.Palette (suc i)) m Tt e = (refl, refl)
 placed_same s (Places.Palette (suc i)) m Fog e = (refl, refl, refl)
 placed_same s (Places.Palette (suc i)) m Ambient e = refl
 
-place_same : (s : FfState) (p : Slot) (f : Place → D3DMATRIX) (σ : Section) → has_section (dirty_word (change_at s p f).state) σ ≡ false → same_inputs σ s (change_at s p f).state
+place_same : (s : FfState) (p : Option Place) (f : Place → D3DMATRIX) (σ : Section) → has_section (dirty_word (change_at s p f).state) σ ≡ false → same_inputs σ s (change_at s p f).state
 unfolding change_at
-place_same s (At p) f σ e = marked_same σ s (placed s p (f p)) (place_bits p) (placed_same s p (f p) σ (unmarked (placed s p (f p)) (place_bits p) σ e))
-place_same s Unknown f σ e = same σ s
+place_same s (Some p) f σ e = marked_same σ s (placed s p (f p)) (place_bits p) (placed_same s p (f p) σ (unmarked (placed s p (f p)) (place_bits p) σ e))
+place_same s None f σ e = same σ s
 
 -- ---- the material
 
@@ -239,7 +238,7 @@ entries_only s es n Fog e = (refl, refl, refl)
 entries_only s es n Ambient e = refl
 
 -- an answer whose state keeps the inputs of every section that it leaves unmarked
-abbrev Keeps : FfState → Section → LightChanged → Type 0
+abbrev Keeps : FfState → Section → Changed TableFull → Type 0
 Keeps s σ r = has_section (dirty_word r.state) σ ≡ false → same_inputs σ s r.state
 
 replace_keeps : (s : FfState) (at : ℕ) (x : OverflowLight) (σ : Section) → Keeps s σ (replace_entry s at x)
@@ -255,10 +254,10 @@ insert_keeps s at x σ =
     (λ e. lights_same s (with_overflow_count (with_overflow_lights s (inserted_at at x s.overflow_lights)) (n + 1)) σ (entries_only s (inserted_at at x s.overflow_lights) (n + 1)))
     (λ e h. same σ s)
 
-entry_keeps : (s : FfState) (f : Found) (change : OverflowLight → OverflowLight) (made : OverflowLight) (σ : Section) → Keeps s σ (change_entry s f change made)
+entry_keeps : (s : FfState) (f : Result ℕ ℕ) (change : OverflowLight → OverflowLight) (made : OverflowLight) (σ : Section) → Keeps s σ (change_entry s f change made)
 unfolding change_entry
-entry_keeps s f change made σ =
-    branch (Keeps s σ) f.stored _ _ (λ e. replace_keeps s f.at (change (stored_entry s f.at)) σ) (λ e. insert_keeps s f.at made σ)
+entry_keeps s (Ok at) change made σ = replace_keeps s at (change (stored_entry s at)) σ
+entry_keeps s (Err at) change made σ = insert_keeps s at made σ
 
 set_light_keeps : (s : FfState) (i : ℕ) (l : D3DLIGHT9) (σ : Section) → Keeps s σ (set_light_at s i l)
 unfolding set_light_at

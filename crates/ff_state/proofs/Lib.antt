@@ -1,6 +1,6 @@
 pub mod Fields
-pub mod Places
 pub mod Found
+pub mod Places
 pub mod Room
 pub mod Marking
 pub mod Frame

@@ -1,26 +1,25 @@
 -- The dirty bits. Document 01, 'Calls that change the state': "Mark refuses 7 for a u32 above 63. Take never refuses." Document 02, T-05: "mark refuses above 255".
-use Rattle.std.specs.Prelude.{ℕ, cond, leb}
+use Rattle.std.specs.Prelude.{ℕ, cond, Result, Ok, Err, leb}
 use Rattle.std.specs.Int.Bits.{bit_or}
 use Rattle.sections.specs.Sections.{all_bits}
 use Rattle.ff_state.specs.State.{with_ff_vs_dirty, dirty_word}
 use Rattle.ff_state.specs.declared.state.FfState.{FfState}
-use Rattle.ff_state.specs.declared.dirty.MarkAnswer.{MarkAnswer}
-use Rattle.ff_state.specs.declared.dirty.MarkAnswer.TheVariants.{Accepted, UnknownBits}
-use Rattle.ff_state.specs.declared.dirty.Marked.{Marked}
+use Rattle.ff_state.specs.Changed.{Changed, accepted, refused}
+use Rattle.ff_state.specs.declared.dirty.UnknownBits.{UnknownBits}
 use Rattle.ff_state.specs.declared.dirty.Taken.{Taken}
 
 -- the state with more bits dirty
 unfoldable pub dirtied : FfState → ℕ → FfState
 dirtied s bits = with_ff_vs_dirty s (bit_or (dirty_word s) bits)
 
-unfoldable pub mark_ff_vs_dirty : FfState → ℕ → Marked
+unfoldable pub mark_ff_vs_dirty : FfState → ℕ → Changed UnknownBits
 mark_ff_vs_dirty s bits =
-    cond (leb bits all_bits) (record { answer = Accepted; state = dirtied s bits }) (record { answer = UnknownBits; state = s })
+    cond (leb bits all_bits) (accepted (dirtied s bits)) (refused s (record {}))
 
 unfoldable pub take_ff_vs_dirty : FfState → Taken
 take_ff_vs_dirty s = record { bits = dirty_word s; state = with_ff_vs_dirty s 0 }
 
 -- document 01's number of each answer
-unfoldable pub mark_number : MarkAnswer → ℕ
-mark_number Accepted = 0
-mark_number UnknownBits = 7
+unfoldable pub mark_number : Result (Unit {0}) UnknownBits → ℕ
+mark_number (Ok _) = 0
+mark_number (Err _) = 7

@@ -1,4 +1,5 @@
 pub mod State
+pub mod Changed
 pub mod Dirty
 pub mod Transforms
 pub mod Material

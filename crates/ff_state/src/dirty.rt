@@ -1,23 +1,24 @@
 // The dirty bits: marked, and taken.
 ghost use Rattle.std.specs.Prelude.{◌≡◌};
+ghost use Rattle.ff_state.specs.Changed.{changed};
 ghost use Rattle.ff_state.specs.Dirty.{dirtied, mark_ff_vs_dirty, take_ff_vs_dirty};
 
 use crate::state::FfState;
 use sections::ALL;
-use words::wide8;
+use std::error::Error;
+use std::fmt;
 
-#[derive(Clone, Copy)]
-pub enum MarkAnswer {
-    Accepted,
-    // A bit above the eight.
-    UnknownBits,
+// A bit above the eight.
+#[derive(Clone, Copy, Debug, PartialEq, Eq)]
+pub struct UnknownBits;
+
+impl fmt::Display for UnknownBits {
+    fn fmt<W: fmt::Write>(&self, f: &mut fmt::Formatter<W>) -> fmt::Result {
+        f.write_str("a dirty bit that is no section's")
+    }
 }
 
-#[derive(Clone, Copy)]
-pub struct Marked {
-    pub answer: MarkAnswer,
-    pub state: FfState,
-}
+impl Error for UnknownBits {}
 
 #[derive(Clone, Copy)]
 pub struct Taken {
@@ -26,34 +27,30 @@ pub struct Taken {
 }
 
 // The state with the bits of `bits` dirty too.
+#[tactic(auto, unfolding(crate::specs::Dirty::dirtied))]
 pub fn with_dirty(mut s: FfState, bits: u8) -> FfState
     ensures { result ≡ dirtied s bits }
 {
-    s.ff_vs_dirty = s.ff_vs_dirty | bits;
+    s.ff_vs_dirty |= bits;
     s
 }
 
 impl FfState {
-    pub fn mark_ff_vs_dirty(mut self, bits: u32) -> Marked
-        ensures { result ≡ mark_ff_vs_dirty self bits }
+    #[tactic(auto, unfolding(crate::specs::Dirty::mark_ff_vs_dirty, crate::specs::Changed::changed))]
+    pub fn mark_ff_vs_dirty(self, bits: u32) -> Result<FfState, UnknownBits>
+        ensures { changed self result ≡ mark_ff_vs_dirty self bits }
     {
         if bits > ALL as u32 {
-            return Marked {
-                answer: MarkAnswer::UnknownBits,
-                state: self,
-            };
+            return Err(UnknownBits);
         }
-        self = with_dirty(self, bits as u8);
-        Marked {
-            answer: MarkAnswer::Accepted,
-            state: self,
-        }
+        Ok(with_dirty(self, bits as u8))
     }
 
+    #[tactic(auto, unfolding(crate::specs::Dirty::take_ff_vs_dirty))]
     pub fn take_ff_vs_dirty(mut self) -> Taken
         ensures { result ≡ take_ff_vs_dirty self }
     {
-        let bits = wide8(self.ff_vs_dirty);
+        let bits = u32::from(self.ff_vs_dirty);
         self.ff_vs_dirty = 0;
         Taken { bits, state: self }
     }

@@ -1,22 +1,15 @@
-// The answers of the calls on lights, which crates/ff_lights has.
-use crate::state::FfState;
-use d3d9_types::D3DLIGHT9;
+// What refuses a call on lights, which crates/ff_lights has.
+use std::error::Error;
+use std::fmt;
 
-#[derive(Clone, Copy)]
-pub enum LightAnswer {
-    Accepted,
-    // 56 other lights from index 8 on are stored.
-    Full,
+// 56 other lights from index 8 on are stored.
+#[derive(Clone, Copy, Debug, PartialEq, Eq)]
+pub struct TableFull;
+
+impl fmt::Display for TableFull {
+    fn fmt<W: fmt::Write>(&self, f: &mut fmt::Formatter<W>) -> fmt::Result {
+        f.write_str("56 other lights from index 8 on are stored")
+    }
 }
 
-#[derive(Clone, Copy)]
-pub struct LightChanged {
-    pub answer: LightAnswer,
-    pub state: FfState,
-}
-
-#[derive(Clone, Copy)]
-pub enum LightRead {
-    Light(D3DLIGHT9),
-    Undefined,
-}
+impl Error for TableFull {}

@@ -8,6 +8,7 @@ use d3d9_types::D3DMATERIAL9;
 use sections::MATERIAL;
 
 impl FfState {
+    #[tactic(auto, unfolding(crate::specs::Material::set_material))]
     pub fn set_material(mut self, m: D3DMATERIAL9) -> FfState
         ensures { result ≡ set_material self m }
     {

@@ -2,13 +2,11 @@
 ghost use Rattle.std.specs.Prelude.{◌≡◌};
 ghost use Rattle.ff_state.specs.State.{fresh_state};
 
-use d3d9_types::{
-    D3DLIGHT9, D3DMATERIAL9, D3DMATRIX, IDENTITY, RenderStates, default_light, default_material,
-};
+use d3d9_types::{D3DLIGHT9, D3DMATERIAL9, D3DMATRIX, IDENTITY, RenderStates};
 use light_table::{OverflowLight, zero_light};
 use sections::ALL;
 
-// The lights from index 8 on stand in overflow_lights, by ascending index; the first overflow_count
+// Document 01: "the state struct holds the array of overflow entries and its count". The lights from index 8 on stand in overflow_lights, by ascending index; the first overflow_count
 // are used. How odd values read is said in specs/State.antt.
 #[repr(C)]
 #[derive(Clone, Copy)]
@@ -43,8 +41,8 @@ impl FfState {
             world_palette: [identity; 256],
             world_palette_high_water: 0,
             texture_transforms: [identity; 8],
-            material: default_material(),
-            lights: [default_light(); 8],
+            material: D3DMATERIAL9::default(),
+            lights: [D3DLIGHT9::default(); 8],
             light_enabled: 0,
             light_set_mask: 0,
             light_defined_mask: 0,

@@ -1,5 +1,6 @@
 // Transforms, by the numbers of D3DTRANSFORMSTATETYPE.
-ghost use Rattle.std.specs.Prelude.{◌≡◌, ◌<◌};
+ghost use Rattle.std.specs.Prelude.{◌≡◌, ◌<◌, IfSome};
+ghost use Rattle.ff_state.specs.Changed.{changed};
 ghost use Rattle.ff_state.specs.Transforms.{slot_of, InRange, place_matrix, placed, place_bits, set_transform, multiply_transform, transform_of};
 ghost use Rattle.ff_state.specs.Transforms as Transforms;
 
@@ -10,12 +11,11 @@ use d3d9_types::{
 };
 use matrix::mat_mul;
 use sections::{LIGHTS, PALETTE, PROJ, TT, WV};
-use words::wide16;
+use std::error::Error;
+use std::fmt;
 
-// The numbers behind the last texture's and the last world matrix's.
-const TEXTURE_END: u32 = D3DTS_TEXTURE7 + 1;
-
-const WORLD_END: u32 = D3DTS_WORLD + 256;
+// The number of the last world matrix.
+const LAST_WORLD: u32 = D3DTS_WORLD + 255;
 
 // Where a transform is stored.
 #[derive(Clone, Copy)]
@@ -26,57 +26,38 @@ pub enum Place {
     Palette(usize),
 }
 
-// What a number names.
-#[derive(Clone, Copy)]
-pub enum Slot {
-    At(Place),
-    Unknown,
+// A number that names no place.
+#[derive(Clone, Copy, Debug, PartialEq, Eq)]
+pub struct UnknownState;
+
+impl fmt::Display for UnknownState {
+    fn fmt<W: fmt::Write>(&self, f: &mut fmt::Formatter<W>) -> fmt::Result {
+        f.write_str("a transform state that is none")
+    }
 }
 
-#[derive(Clone, Copy)]
-pub enum TransformAnswer {
-    Accepted,
-    UnknownState,
-}
+impl Error for UnknownState {}
 
-#[derive(Clone, Copy)]
-pub struct TransformChanged {
-    pub answer: TransformAnswer,
-    pub state: FfState,
-}
-
-#[derive(Clone, Copy)]
-pub enum TransformRead {
-    Matrix(D3DMATRIX),
-    UnknownState,
-}
-
-pub fn slot_of(state: u32) -> Slot
-    ensures { result ≡ slot_of state }
+// What a number names, if anything: document 01 names the function.
+#[tactic(auto, unfolding(crate::specs::Transforms::slot_of))]
+pub fn slot_of(state: u32) -> Option<Place>
+    ensures value { result ≡ slot_of state }
+    ensures in_range { IfSome result InRange }
 {
-    if state == D3DTS_VIEW {
-        return Slot::At(Place::View);
+    match state {
+        D3DTS_VIEW => Some(Place::View),
+        D3DTS_PROJECTION => Some(Place::Projection),
+        D3DTS_TEXTURE0..=D3DTS_TEXTURE7 => {
+            Some(Place::Texture((state - D3DTS_TEXTURE0) as usize))
+        }
+        D3DTS_WORLD..=LAST_WORLD => Some(Place::Palette((state - D3DTS_WORLD) as usize)),
+        _ => None,
     }
-    if state == D3DTS_PROJECTION {
-        return Slot::At(Place::Projection);
-    }
-    if state < D3DTS_TEXTURE0 {
-        return Slot::Unknown;
-    }
-    if state < TEXTURE_END {
-        return Slot::At(Place::Texture((state - D3DTS_TEXTURE0) as usize));
-    }
-    if state < D3DTS_WORLD {
-        return Slot::Unknown;
-    }
-    if state < WORLD_END {
-        return Slot::At(Place::Palette((state - D3DTS_WORLD) as usize));
-    }
-    Slot::Unknown
 }
 
 // The sections that a matrix stored there feeds. A view change moves the lights, which are packed in
 // view space; palette[0] is the world matrix of WV too.
+#[tactic(auto, unfolding(crate::specs::Transforms::place_sections))]
 fn place_bits(place: Place) -> u8
     ensures { result ≡ place_bits place }
 {
@@ -89,6 +70,7 @@ fn place_bits(place: Place) -> u8
 }
 
 // The state with m stored there. A palette index raises the highest one used.
+#[tactic(auto, unfolding(crate::specs::Transforms::placed))]
 fn placed_at(mut s: FfState, place: Place, m: D3DMATRIX) -> FfState
     requires { InRange place }
     ensures { result ≡ placed s place m }
@@ -113,6 +95,7 @@ fn placed_at(mut s: FfState, place: Place, m: D3DMATRIX) -> FfState
     s
 }
 
+#[tactic(auto, unfolding(crate::specs::Transforms::place_matrix))]
 fn place_matrix(s: FfState, place: Place) -> D3DMATRIX
     requires { InRange place }
     ensures { result ≡ place_matrix s place }
@@ -132,58 +115,41 @@ fn place_matrix(s: FfState, place: Place) -> D3DMATRIX
 }
 
 impl FfState {
-    pub fn set_transform(mut self, state: u32, m: D3DMATRIX) -> TransformChanged
-        ensures { result ≡ set_transform self state m }
+    #[tactic(auto, unfolding(crate::specs::Transforms::set_transform, crate::specs::Transforms::change_at, crate::specs::Changed::changed))]
+    pub fn set_transform(self, state: u32, m: D3DMATRIX) -> Result<FfState, UnknownState>
+        ensures { changed self result ≡ set_transform self state m }
     {
-        let Slot::At(place) = slot_of(state) else {
-            return TransformChanged {
-                answer: TransformAnswer::UnknownState,
-                state: self,
-            };
-        };
-        self = placed_at(self, place, m);
-        self = with_dirty(self, place_bits(place));
-        TransformChanged {
-            answer: TransformAnswer::Accepted,
-            state: self,
-        }
+        let place = slot_of(state).ok_or(UnknownState)?;
+        Ok(with_dirty(placed_at(self, place, m), place_bits(place)))
     }
 
     // Stores argument x slot, by document 02 the order of Microsoft's page; the Rust has the other.
-    pub fn multiply_transform(mut self, state: u32, m: D3DMATRIX) -> TransformChanged
-        ensures { result ≡ multiply_transform self state m }
+    #[tactic(auto, unfolding(crate::specs::Transforms::multiply_transform, crate::specs::Transforms::change_at, crate::specs::Changed::changed))]
+    pub fn multiply_transform(self, state: u32, m: D3DMATRIX) -> Result<FfState, UnknownState>
+        ensures { changed self result ≡ multiply_transform self state m }
     {
-        let Slot::At(place) = slot_of(state) else {
-            return TransformChanged {
-                answer: TransformAnswer::UnknownState,
-                state: self,
-            };
-        };
+        let place = slot_of(state).ok_or(UnknownState)?;
         let product = mat_mul(m, place_matrix(self, place));
-        self = placed_at(self, place, product);
-        self = with_dirty(self, place_bits(place));
-        TransformChanged {
-            answer: TransformAnswer::Accepted,
-            state: self,
-        }
+        Ok(with_dirty(placed_at(self, place, product), place_bits(place)))
     }
 
-    pub fn transform(self, state: u32) -> TransformRead
+    #[tactic(auto, unfolding(crate::specs::Transforms::transform_of, crate::specs::Transforms::read_at))]
+    pub fn transform(self, state: u32) -> Result<D3DMATRIX, UnknownState>
         ensures { result ≡ transform_of self state }
     {
-        let Slot::At(place) = slot_of(state) else {
-            return TransformRead::UnknownState;
-        };
-        TransformRead::Matrix(place_matrix(self, place))
+        let place = slot_of(state).ok_or(UnknownState)?;
+        Ok(place_matrix(self, place))
     }
 
     // The highest palette index ever set or multiplied, plus 1.
+    #[tactic(auto, unfolding(crate::specs::Transforms::world_palette_used))]
     pub fn world_palette_used(self) -> u32
         ensures { result ≡ Transforms.world_palette_used self }
     {
-        wide16(self.world_palette_high_water) + 1
+        u32::from(self.world_palette_high_water) + 1
     }
 
+    #[tactic(auto, unfolding(crate::specs::Transforms::world_view_projection))]
     pub fn world_view_projection(self) -> D3DMATRIX
         ensures { result ≡ Transforms.world_view_projection self }
     {

@@ -4,23 +4,23 @@ use Rattle.std.specs.Prelude.{ℕ, zero, suc, ◌+◌, ◌*◌, ◌^◌, ◌≤�
 use Rattle.std.specs.Float.{nan, inf, fin, binary32}
 use Rattle.std.specs.Float.Ieee.{odd, to_bits}
 use Rattle.float32.specs.Root.{in_units}
-use Rattle.float32.specs.declared.root.Operand.{Operand}
-use Rattle.float32.specs.declared.root.Operand.TheVariants.{Special, Positive}
+use Rattle.std.specs.declared.ops.ControlFlow.{ControlFlow}
+use Rattle.std.specs.declared.ops.ControlFlow.TheVariants.{Break, Continue}
 use Rattle.float32.specs.declared.root.Fields.{Fields}
 use Rattle.float32.specs.declared.root.Root.{Root}
 
 -- Step 1, special operands: a NaN returns itself (6.2.3), and so do +infinity (6.1) and either zero (6.3); any other negative gives NaN (7.2 g).
 -- What is left goes on as its bits (3.4).
-unfoldable pub operand_of : Float → Operand
-operand_of nan = Special nan
-operand_of (inf s) = Special (cond s nan (inf s))
-operand_of (fin s zero e) = Special (fin s zero e)
-operand_of (fin s (suc m) e) = cond s (Special nan) (Positive (to_bits binary32 (fin s (suc m) e)))
+unfoldable pub operand_of : Float → ControlFlow Float ℕ
+operand_of nan = Break nan
+operand_of (inf s) = Break (cond s nan (inf s))
+operand_of (fin s zero e) = Break (fin s zero e)
+operand_of (fin s (suc m) e) = cond s (Break nan) (Continue (to_bits binary32 (fin s (suc m) e)))
 
 -- the bits of a finite value above zero
-abbrev pub InRange : Operand → Type 0
-InRange (Special y) = Unit {0}
-InRange (Positive b) = (0 < b) × (b < 0x7F80_0000)
+abbrev pub InRange : ControlFlow Float ℕ → Type 0
+InRange (Break y) = Unit {0}
+InRange (Continue b) = (0 < b) × (b < 0x7F80_0000)
 
 -- The fields of a value above zero (3.4): it is significand * 2 ^ exponent in units of 2 ^ -298, and the significand has 24 digits, a subnormal's too.
 pub record FieldsOf (x : Float) (f : Fields) : Type 0 where

@@ -7,13 +7,7 @@ ghost use Rattle.float32.specs.Root.{floor_root, sqrt_of};
 ghost use Rattle.float32.specs.Steps.{operand_of, InRange, FieldsOf, Exact, nearest_of, rounded_root};
 
 use crate::bits::{bits_of, of_bits};
-
-// What the first step finds: the answer, or the bits of an operand that is finite and above zero.
-#[derive(Clone, Copy)]
-enum Operand {
-    Special(f32),
-    Positive(u32),
-}
+use std::ops::ControlFlow;
 
 // What the second step finds: the operand is (root * root + remainder) * 4^exponent, in units of
 // 2^-298.
@@ -27,31 +21,30 @@ struct Root {
 pub fn sqrt(x: f32) -> f32
     ensures { result ≡ sqrt_of x }
 {
-    let operand = special(x);
-    match operand {
-        Operand::Special(y) => y,
-        Operand::Positive(b) => rounded(root_with_remainder(b)),
+    match special(x) {
+        ControlFlow::Break(y) => y,
+        ControlFlow::Continue(b) => rounded(root_with_remainder(b)),
     }
 }
 
-// Step 1, special operands: 6.1, 6.2.3, 6.3 and 7.2, each at its answer.
-fn special(x: f32) -> Operand
+// Step 1, special operands: 6.1, 6.2.3, 6.3 and 7.2, each at its answer. One that is finite and above zero goes on, as its bits.
+fn special(x: f32) -> ControlFlow<f32, u32>
     ensures { (result ≡ operand_of x) × (InRange result) }
 {
-    if x != x {
-        return Operand::Special(x); // 6.2.3: a NaN gives a NaN
+    if x.is_nan() {
+        return ControlFlow::Break(x); // 6.2.3: a NaN gives a NaN
     }
     let b = bits_of(x);
     if b % 0x8000_0000 == 0 {
-        return Operand::Special(x); // 6.3: the root of -0 is -0; that of +0 is +0
+        return ControlFlow::Break(x); // 6.3: the root of -0 is -0; that of +0 is +0
     }
     if 0x8000_0000 < b {
-        return Operand::Special(0.0 / 0.0); // 7.2 g: below zero the operation is invalid
+        return ControlFlow::Break(f32::NAN); // 7.2 g: below zero the operation is invalid
     }
     if b == 0x7F80_0000 {
-        return Operand::Special(x); // 6.1: the root of +infinity is +infinity
+        return ControlFlow::Break(x); // 6.1: the root of +infinity is +infinity
     }
-    Operand::Positive(b)
+    ControlFlow::Continue(b)
 }
 
 // Step 2, the whole-number root with its remainder. 5.1: the operation is performed as if to
@@ -81,14 +74,16 @@ fn rounded(r: Root) -> f32
 
 // The next number is nearer where the remainder exceeds the root. No tie occurs, since
 // (root + 1/2)^2 is root^2 + root + 1/4, no whole number.
+#[tactic(auto, unfolding(crate::specs::Steps::nearest_of))]
 fn nearest(r: Root) -> u64
     requires { r.root < 2 ^ 24 }
     ensures { result ≡ nearest_of r }
 {
     if r.remainder <= r.root {
-        return r.root;
+        r.root
+    } else {
+        r.root + 1
     }
-    r.root + 1
 }
 
 // ---- within step 2: the operand's fields, and a whole-number root
@@ -107,7 +102,7 @@ fn fields_of(b: u32) -> Fields
 {
     let field = b / 0x80_0000;
     if field == 0 {
-        let z = u32::leading_zeros(b) - 8;
+        let z = b.leading_zeros() - 8;
         return Fields {
             significand: b << z,
             exponent: 149 - z,
@@ -133,24 +128,20 @@ fn floor_root(n: u64, g: u64) -> u64
     ensures { result ≡ floor_root n }
 {
     let r = not_above(n, g);
-    if n < r * r {
-        return digit_root(n);
+    if r * r <= n && n < (r + 1) * (r + 1) {
+        r
+    } else {
+        digit_root(n)
     }
-    if (r + 1) * (r + 1) <= n {
-        return digit_root(n);
-    }
-    r
 }
 
 // g, or one less where its square is above n.
+#[tactic(auto, using(crate::proofs::root::Squares::square_fits))]
 fn not_above(n: u64, g: u64) -> u64
     requires { (2 ^ 23 ≤ g) × (g < 2 ^ 24) }
     ensures { result < 2 ^ 24 }
 {
-    if n < g * g {
-        return g - 1;
-    }
-    g
+    if n < g * g { g - 1 } else { g }
 }
 
 // The largest r with r * r <= n, a binary digit at a time.
@@ -159,9 +150,7 @@ fn digit_root(n: u64) -> u64
     ensures { result ≡ floor_root n }
 {
     let mut r = 0u64;
-    let mut k = 24u64;
-    while 0 < k {
-        k = k - 1;
+    for k in (0..24u32).rev() {
         let next = r + (1 << k);
         if next * next <= n {
             r = next;
@@ -193,8 +182,8 @@ fn heron(y: f64, p: f64) -> u64
     ensures { (2 ^ 23 ≤ result) × (result < 2 ^ 24) }
 {
     let u = p + y / p;
-    if u != u {
+    if u.is_nan() {
         return 0x80_0000;
     }
-    0x80_0000 + f64::to_bits(u) / 0x2000_0000 % 0x80_0000
+    0x80_0000 + u.to_bits() / 0x2000_0000 % 0x80_0000
 }

@@ -1,11 +1,12 @@
-// The rows of each section as bytes, 16 to a row.
+// The rows of each section as bytes, 16 to a row. C has a name for each section, so there are eight functions of one form.
 ghost use Rattle.std.specs.Prelude.{◌≡◌};
 ghost use Rattle.calls.specs.Answer.{answer};
 ghost use Rattle.sections.specs.declared.sections.Section.TheVariants.{Wv, Proj, Material, Lights, Palette, Tt, Fog, Ambient};
 ghost use Rattle.pack_calls.specs.Fill.{ff_fill_section};
 ghost use Rattle.pack_calls.specs.Key.{key_of};
 
-use pack_calls::fill_section;
+use calls::number;
+use pack_calls::{fill_section, key_of};
 use sections::Section;
 
 pub fn ff_fill_wv_section(
@@ -22,9 +23,7 @@ pub fn ff_fill_wv_section(
 ) -> u32
     ensures { answer result dst.new ≡ ff_fill_section Wv image.now (key_of has_rhw lighting_enabled specular_enable vertex_blend_indexed preview light_active_mask fog_mode vertex_blend_count) dst.old }
 {
-    fill_section(
-        Section::Wv,
-        image,
+    let key = key_of(
         has_rhw,
         lighting_enabled,
         specular_enable,
@@ -33,8 +32,8 @@ pub fn ff_fill_wv_section(
         light_active_mask,
         fog_mode,
         vertex_blend_count,
-        dst,
-    )
+    );
+    number(fill_section(Section::Wv, image, key, dst))
 }
 
 pub fn ff_fill_proj_section(
@@ -51,9 +50,7 @@ pub fn ff_fill_proj_section(
 ) -> u32
     ensures { answer result dst.new ≡ ff_fill_section Proj image.now (key_of has_rhw lighting_enabled specular_enable vertex_blend_indexed preview light_active_mask fog_mode vertex_blend_count) dst.old }
 {
-    fill_section(
-        Section::Proj,
-        image,
+    let key = key_of(
         has_rhw,
         lighting_enabled,
         specular_enable,
@@ -62,8 +59,8 @@ pub fn ff_fill_proj_section(
         light_active_mask,
         fog_mode,
         vertex_blend_count,
-        dst,
-    )
+    );
+    number(fill_section(Section::Proj, image, key, dst))
 }
 
 pub fn ff_fill_material_section(
@@ -80,9 +77,7 @@ pub fn ff_fill_material_section(
 ) -> u32
     ensures { answer result dst.new ≡ ff_fill_section Material image.now (key_of has_rhw lighting_enabled specular_enable vertex_blend_indexed preview light_active_mask fog_mode vertex_blend_count) dst.old }
 {
-    fill_section(
-        Section::Material,
-        image,
+    let key = key_of(
         has_rhw,
         lighting_enabled,
         specular_enable,
@@ -91,8 +86,8 @@ pub fn ff_fill_material_section(
         light_active_mask,
         fog_mode,
         vertex_blend_count,
-        dst,
-    )
+    );
+    number(fill_section(Section::Material, image, key, dst))
 }
 
 pub fn ff_fill_lights_section(
@@ -109,9 +104,7 @@ pub fn ff_fill_lights_section(
 ) -> u32
     ensures { answer result dst.new ≡ ff_fill_section Lights image.now (key_of has_rhw lighting_enabled specular_enable vertex_blend_indexed preview light_active_mask fog_mode vertex_blend_count) dst.old }
 {
-    fill_section(
-        Section::Lights,
-        image,
+    let key = key_of(
         has_rhw,
         lighting_enabled,
         specular_enable,
@@ -120,8 +113,8 @@ pub fn ff_fill_lights_section(
         light_active_mask,
         fog_mode,
         vertex_blend_count,
-        dst,
-    )
+    );
+    number(fill_section(Section::Lights, image, key, dst))
 }
 
 pub fn ff_fill_palette_section(
@@ -138,9 +131,7 @@ pub fn ff_fill_palette_section(
 ) -> u32
     ensures { answer result dst.new ≡ ff_fill_section Palette image.now (key_of has_rhw lighting_enabled specular_enable vertex_blend_indexed preview light_active_mask fog_mode vertex_blend_count) dst.old }
 {
-    fill_section(
-        Section::Palette,
-        image,
+    let key = key_of(
         has_rhw,
         lighting_enabled,
         specular_enable,
@@ -149,8 +140,8 @@ pub fn ff_fill_palette_section(
         light_active_mask,
         fog_mode,
         vertex_blend_count,
-        dst,
-    )
+    );
+    number(fill_section(Section::Palette, image, key, dst))
 }
 
 pub fn ff_fill_tt_section(
@@ -167,9 +158,7 @@ pub fn ff_fill_tt_section(
 ) -> u32
     ensures { answer result dst.new ≡ ff_fill_section Tt image.now (key_of has_rhw lighting_enabled specular_enable vertex_blend_indexed preview light_active_mask fog_mode vertex_blend_count) dst.old }
 {
-    fill_section(
-        Section::Tt,
-        image,
+    let key = key_of(
         has_rhw,
         lighting_enabled,
         specular_enable,
@@ -178,8 +167,8 @@ pub fn ff_fill_tt_section(
         light_active_mask,
         fog_mode,
         vertex_blend_count,
-        dst,
-    )
+    );
+    number(fill_section(Section::Tt, image, key, dst))
 }
 
 pub fn ff_fill_fog_section(
@@ -196,9 +185,7 @@ pub fn ff_fill_fog_section(
 ) -> u32
     ensures { answer result dst.new ≡ ff_fill_section Fog image.now (key_of has_rhw lighting_enabled specular_enable vertex_blend_indexed preview light_active_mask fog_mode vertex_blend_count) dst.old }
 {
-    fill_section(
-        Section::Fog,
-        image,
+    let key = key_of(
         has_rhw,
         lighting_enabled,
         specular_enable,
@@ -207,8 +194,8 @@ pub fn ff_fill_fog_section(
         light_active_mask,
         fog_mode,
         vertex_blend_count,
-        dst,
-    )
+    );
+    number(fill_section(Section::Fog, image, key, dst))
 }
 
 pub fn ff_fill_ambient_section(
@@ -225,9 +212,7 @@ pub fn ff_fill_ambient_section(
 ) -> u32
     ensures { answer result dst.new ≡ ff_fill_section Ambient image.now (key_of has_rhw lighting_enabled specular_enable vertex_blend_indexed preview light_active_mask fog_mode vertex_blend_count) dst.old }
 {
-    fill_section(
-        Section::Ambient,
-        image,
+    let key = key_of(
         has_rhw,
         lighting_enabled,
         specular_enable,
@@ -236,6 +221,6 @@ pub fn ff_fill_ambient_section(
         light_active_mask,
         fog_mode,
         vertex_blend_count,
-        dst,
-    )
+    );
+    number(fill_section(Section::Ambient, image, key, dst))
 }

@@ -4,6 +4,9 @@ ghost use Rattle.calls.specs.Answer.{answer};
 ghost use Rattle.pack_calls.specs.Key.{key_of};
 ghost use Rattle.refresh_calls.specs.Mirror.{left, ff_refresh};
 
+use calls::put_number;
+use pack_calls::key_of;
+
 pub fn ff_refresh(
     image: &mut [u8],
     has_rhw: u8,
@@ -19,8 +22,7 @@ pub fn ff_refresh(
 ) -> u32
     ensures { answer result (left image.new mirror.new out.new) ≡ ff_refresh image.old (key_of has_rhw lighting_enabled specular_enable vertex_blend_indexed preview light_active_mask fog_mode vertex_blend_count) mirror.old out.old }
 {
-    refresh_calls::refresh(
-        image,
+    let key = key_of(
         has_rhw,
         lighting_enabled,
         specular_enable,
@@ -29,7 +31,6 @@ pub fn ff_refresh(
         light_active_mask,
         fog_mode,
         vertex_blend_count,
-        mirror,
-        out,
-    )
+    );
+    put_number(refresh_calls::refresh(image, key, mirror), out)
 }

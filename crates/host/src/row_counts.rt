@@ -1,11 +1,12 @@
-// How many rows each section has under a key, and how many a draw reads.
+// How many rows each section has under a key, and how many a draw reads. C has a name for each section, so there are eight functions of one form.
 ghost use Rattle.std.specs.Prelude.{◌≡◌};
 ghost use Rattle.calls.specs.Answer.{answer};
 ghost use Rattle.sections.specs.declared.sections.Section.TheVariants.{Wv, Proj, Material, Lights, Palette, Tt, Fog, Ambient};
 ghost use Rattle.pack_calls.specs.Key.{key_of};
 ghost use Rattle.pack_calls.specs.RowCounts.{ff_section_rows, host_row_count};
 
-use pack_calls::{section_rows, vs_row_count};
+use calls::put_number;
+use pack_calls::{key_of, section_rows, vs_row_count};
 use sections::Section;
 
 pub fn ff_vs_row_count(
@@ -22,8 +23,7 @@ pub fn ff_vs_row_count(
 ) -> u32
     ensures { answer result out.new ≡ host_row_count image.now (key_of has_rhw lighting_enabled specular_enable vertex_blend_indexed preview light_active_mask fog_mode vertex_blend_count) out.old }
 {
-    vs_row_count(
-        image,
+    let key = key_of(
         has_rhw,
         lighting_enabled,
         specular_enable,
@@ -32,8 +32,8 @@ pub fn ff_vs_row_count(
         light_active_mask,
         fog_mode,
         vertex_blend_count,
-        out,
-    )
+    );
+    put_number(vs_row_count(image, key), out)
 }
 
 pub fn ff_wv_section_rows(
@@ -50,9 +50,7 @@ pub fn ff_wv_section_rows(
 ) -> u32
     ensures { answer result out.new ≡ ff_section_rows Wv image.now (key_of has_rhw lighting_enabled specular_enable vertex_blend_indexed preview light_active_mask fog_mode vertex_blend_count) out.old }
 {
-    section_rows(
-        Section::Wv,
-        image,
+    let key = key_of(
         has_rhw,
         lighting_enabled,
         specular_enable,
@@ -61,8 +59,8 @@ pub fn ff_wv_section_rows(
         light_active_mask,
         fog_mode,
         vertex_blend_count,
-        out,
-    )
+    );
+    put_number(section_rows(Section::Wv, image, key), out)
 }
 
 pub fn ff_proj_section_rows(
@@ -79,9 +77,7 @@ pub fn ff_proj_section_rows(
 ) -> u32
     ensures { answer result out.new ≡ ff_section_rows Proj image.now (key_of has_rhw lighting_enabled specular_enable vertex_blend_indexed preview light_active_mask fog_mode vertex_blend_count) out.old }
 {
-    section_rows(
-        Section::Proj,
-        image,
+    let key = key_of(
         has_rhw,
         lighting_enabled,
         specular_enable,
@@ -90,8 +86,8 @@ pub fn ff_proj_section_rows(
         light_active_mask,
         fog_mode,
         vertex_blend_count,
-        out,
-    )
+    );
+    put_number(section_rows(Section::Proj, image, key), out)
 }
 
 pub fn ff_material_section_rows(
@@ -108,9 +104,7 @@ pub fn ff_material_section_rows(
 ) -> u32
     ensures { answer result out.new ≡ ff_section_rows Material image.now (key_of has_rhw lighting_enabled specular_enable vertex_blend_indexed preview light_active_mask fog_mode vertex_blend_count) out.old }
 {
-    section_rows(
-        Section::Material,
-        image,
+    let key = key_of(
         has_rhw,
         lighting_enabled,
         specular_enable,
@@ -119,8 +113,8 @@ pub fn ff_material_section_rows(
         light_active_mask,
         fog_mode,
         vertex_blend_count,
-        out,
-    )
+    );
+    put_number(section_rows(Section::Material, image, key), out)
 }
 
 pub fn ff_lights_section_rows(
@@ -137,9 +131,7 @@ pub fn ff_lights_section_rows(
 ) -> u32
     ensures { answer result out.new ≡ ff_section_rows Lights image.now (key_of has_rhw lighting_enabled specular_enable vertex_blend_indexed preview light_active_mask fog_mode vertex_blend_count) out.old }
 {
-    section_rows(
-        Section::Lights,
-        image,
+    let key = key_of(
         has_rhw,
         lighting_enabled,
         specular_enable,
@@ -148,8 +140,8 @@ pub fn ff_lights_section_rows(
         light_active_mask,
         fog_mode,
         vertex_blend_count,
-        out,
-    )
+    );
+    put_number(section_rows(Section::Lights, image, key), out)
 }
 
 pub fn ff_palette_section_rows(
@@ -166,9 +158,7 @@ pub fn ff_palette_section_rows(
 ) -> u32
     ensures { answer result out.new ≡ ff_section_rows Palette image.now (key_of has_rhw lighting_enabled specular_enable vertex_blend_indexed preview light_active_mask fog_mode vertex_blend_count) out.old }
 {
-    section_rows(
-        Section::Palette,
-        image,
+    let key = key_of(
         has_rhw,
         lighting_enabled,
         specular_enable,
@@ -177,8 +167,8 @@ pub fn ff_palette_section_rows(
         light_active_mask,
         fog_mode,
         vertex_blend_count,
-        out,
-    )
+    );
+    put_number(section_rows(Section::Palette, image, key), out)
 }
 
 pub fn ff_tt_section_rows(
@@ -195,9 +185,7 @@ pub fn ff_tt_section_rows(
 ) -> u32
     ensures { answer result out.new ≡ ff_section_rows Tt image.now (key_of has_rhw lighting_enabled specular_enable vertex_blend_indexed preview light_active_mask fog_mode vertex_blend_count) out.old }
 {
-    section_rows(
-        Section::Tt,
-        image,
+    let key = key_of(
         has_rhw,
         lighting_enabled,
         specular_enable,
@@ -206,8 +194,8 @@ pub fn ff_tt_section_rows(
         light_active_mask,
         fog_mode,
         vertex_blend_count,
-        out,
-    )
+    );
+    put_number(section_rows(Section::Tt, image, key), out)
 }
 
 pub fn ff_fog_section_rows(
@@ -224,9 +212,7 @@ pub fn ff_fog_section_rows(
 ) -> u32
     ensures { answer result out.new ≡ ff_section_rows Fog image.now (key_of has_rhw lighting_enabled specular_enable vertex_blend_indexed preview light_active_mask fog_mode vertex_blend_count) out.old }
 {
-    section_rows(
-        Section::Fog,
-        image,
+    let key = key_of(
         has_rhw,
         lighting_enabled,
         specular_enable,
@@ -235,8 +221,8 @@ pub fn ff_fog_section_rows(
         light_active_mask,
         fog_mode,
         vertex_blend_count,
-        out,
-    )
+    );
+    put_number(section_rows(Section::Fog, image, key), out)
 }
 
 pub fn ff_ambient_section_rows(
@@ -253,9 +239,7 @@ pub fn ff_ambient_section_rows(
 ) -> u32
     ensures { answer result out.new ≡ ff_section_rows Ambient image.now (key_of has_rhw lighting_enabled specular_enable vertex_blend_indexed preview light_active_mask fog_mode vertex_blend_count) out.old }
 {
-    section_rows(
-        Section::Ambient,
-        image,
+    let key = key_of(
         has_rhw,
         lighting_enabled,
         specular_enable,
@@ -264,6 +248,6 @@ pub fn ff_ambient_section_rows(
         light_active_mask,
         fog_mode,
         vertex_blend_count,
-        out,
-    )
+    );
+    put_number(section_rows(Section::Ambient, image, key), out)
 }

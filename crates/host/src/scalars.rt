@@ -4,12 +4,14 @@ ghost use Rattle.host.specs.Scalars.{ff_sqrt, ff_cos};
 
 use float32::{bits_of, of_bits};
 
+#[tactic(auto, unfolding(crate::specs::Scalars::ff_sqrt))]
 pub fn ff_sqrt(x: u32) -> u32
     ensures { result ≡ ff_sqrt x }
 {
     bits_of(float32::sqrt(of_bits(x)))
 }
 
+#[tactic(auto, unfolding(crate::specs::Scalars::ff_cos))]
 pub fn ff_cos(x: u32) -> u32
     ensures { result ≡ ff_cos x }
 {

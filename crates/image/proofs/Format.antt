@@ -14,9 +14,9 @@ use Rattle.codec.proofs.Laws.RenderStates.{length-states_bytes}
 use Rattle.ff_state.specs.State.{dirty_word}
 use Rattle.ff_state.specs.declared.state.FfState.{FfState}
 use Rattle.ff_state.specs.Valid.{Valid}
-use Rattle.image_lists.specs.Entry.{entry_bytes}
+use Rattle.codec.specs.Entry.{entry_bytes}
 use Rattle.image_reasons.specs.Length.{image_length}
-use Rattle.image_lists.proofs.Entry.{length-entry_bytes}
+use Rattle.codec.proofs.Laws.Entry.{length-entry_bytes}
 use Rattle.image.specs.Table.{Tiles}
 use Rattle.image.specs.Format.{image_table, image_bytes, Sized}
 use Rattle.image_lists.proofs.Writing.{length_list_bytes}

@@ -8,7 +8,7 @@ use Rattle.codec.specs.RenderStates.{states_bytes}
 use Rattle.ff_state.specs.State.{dirty_word}
 use Rattle.ff_state.specs.declared.state.FfState.{FfState}
 use Rattle.image_lists.specs.Lists.{list_bytes}
-use Rattle.image_lists.specs.Entry.{entry_bytes}
+use Rattle.codec.specs.Entry.{entry_bytes}
 use Rattle.image.specs.Table.{Field, field, table_bytes}
 
 -- Each number as it stands, odd ones too. The masks of types are not written: they follow from the lights.

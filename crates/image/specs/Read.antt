@@ -1,5 +1,5 @@
 -- Reading an image. Document 01, 'State image': "Reading refuses 9 for …"; the reasons are image_reasons'.
-use Rattle.std.specs.Prelude.{ℕ, cond, List}
+use Rattle.std.specs.Prelude.{ℕ, cond, List, Result, Ok, Err}
 use Rattle.codec.specs.Little.{number_at}
 use Rattle.codec.specs.Matrix.{matrix_at}
 use Rattle.codec.specs.Material.{material_at}
@@ -8,12 +8,10 @@ use Rattle.codec.specs.RenderStates.{states_at}
 use Rattle.d3d9_types.specs.declared.light.D3DLIGHT9.{D3DLIGHT9}
 use Rattle.ff_state.specs.declared.state.FfState.{FfState}
 use Rattle.image_lists.specs.Lists.{list_at}
-use Rattle.image_lists.specs.Entry.{entry_at}
+use Rattle.codec.specs.Entry.{entry_at}
 use Rattle.image_lists.specs.Masks.{set_mask, type_mask}
 use Rattle.image_reasons.specs.Reasons.{refused}
-use Rattle.image.specs.declared.read.ReadAnswer.{ReadAnswer}
-use Rattle.image.specs.declared.read.ReadAnswer.TheVariants.{Accepted, NotAnImage}
-use Rattle.image.specs.declared.read.ImageRead.{ImageRead}
+use Rattle.image.specs.declared.read.NotAnImage.{NotAnImage}
 
 abbrev pub lights_of : List ℕ → List D3DLIGHT9
 lights_of bytes = list_at light_at 104 8 bytes 17_092
@@ -44,11 +42,24 @@ state_of bytes =
       tt_active_mask = number_at 1 bytes 24_220;
     }
 
+-- the answer, and the state afterwards
+pub record ImageRead : Type 0 where
+  pub answer : Result Unit NotAnImage
+  pub state : FfState
+
+abbrev pub not_an_image : NotAnImage
+not_an_image = record {}
+
+-- what a caller that held s has then: the state read, or s
+abbrev pub read_outcome : FfState → Result FfState NotAnImage → ImageRead
+read_outcome s (Ok t) = record { answer = Ok tt; state = t }
+read_outcome s (Err e) = record { answer = Err e; state = s }
+
 unfoldable pub read_image : FfState → List ℕ → ImageRead
 read_image s bytes =
-    cond (refused bytes) (record { answer = NotAnImage; state = s }) (record { answer = Accepted; state = state_of bytes })
+    cond (refused bytes) (record { answer = Err not_an_image; state = s }) (record { answer = Ok tt; state = state_of bytes })
 
 -- document 01's number of each answer
-unfoldable pub read_number : ReadAnswer → ℕ
-read_number Accepted = 0
-read_number NotAnImage = 9
+unfoldable pub read_number : Result Unit NotAnImage → ℕ
+read_number (Ok u) = 0
+read_number (Err e) = 9

@@ -4,5 +4,5 @@
 mod read;
 mod write;
 
-pub use read::{ImageRead, ReadAnswer, read_image, state_of};
-pub use write::{WriteAnswer, write_image};
+pub use read::{NotAnImage, read_image, state_of};
+pub use write::{WrongLength, write_image};

@@ -2,43 +2,49 @@
 ghost use Rattle.std.specs.Prelude.{◌≡◌};
 ghost use Rattle.image.specs.Write.{write_outcome, write_image};
 
-use codec::{put_material, put_matrix, put_states, put_u8, put_u16, put_u32};
+use codec::Stored;
 use ff_state::FfState;
-use image_lists::{put_entries, put_lights, put_palette, put_textures};
+use image_lists::put_list;
 use image_reasons::IMAGE_LENGTH;
-use words::wide8;
+use std::error::Error;
+use std::fmt;
 
-#[derive(Clone, Copy)]
-pub enum WriteAnswer {
-    Written,
-    // The destination is not as long as an image; it is left as it was.
-    WrongLength,
+// The destination is not as long as an image; it is left as it was.
+#[derive(Clone, Copy, Debug, PartialEq, Eq)]
+pub struct WrongLength;
+
+impl fmt::Display for WrongLength {
+    fn fmt<W: fmt::Write>(&self, f: &mut fmt::Formatter<W>) -> fmt::Result {
+        f.write_str("the destination is not as long as an image")
+    }
 }
 
-pub fn write_image(s: FfState, dst: &mut [u8]) -> WriteAnswer
+impl Error for WrongLength {}
+
+pub fn write_image(s: FfState, dst: &mut [u8]) -> Result<(), WrongLength>
     ensures { write_outcome result dst.new ≡ write_image s dst.old }
 {
     if dst.len() != IMAGE_LENGTH {
-        return WriteAnswer::WrongLength;
+        return Err(WrongLength);
     }
     let palette = s.world_palette;
     let textures = s.texture_transforms;
     let lights = s.lights;
     let entries = s.overflow_lights;
-    put_matrix(dst, 0, s.view);
-    put_matrix(dst, 64, s.projection);
-    put_palette(dst, 128, palette);
-    put_textures(dst, 16_512, textures);
-    put_material(dst, 17_024, s.material);
-    put_lights(dst, 17_092, lights);
-    put_u8(dst, 17_924, s.light_enabled);
-    put_u8(dst, 17_925, s.light_defined_mask);
-    put_u8(dst, 17_926, s.ff_vs_dirty);
-    put_u8(dst, 17_927, 0);
-    put_u16(dst, 17_928, s.world_palette_high_water);
-    put_u16(dst, 17_930, s.overflow_count);
-    put_entries(dst, 17_932, entries);
-    put_states(dst, 24_204, s.render_states);
-    put_u32(dst, 24_220, wide8(s.tt_active_mask));
-    WriteAnswer::Written
+    s.view.put(dst, 0);
+    s.projection.put(dst, 64);
+    put_list(dst, 128, &palette);
+    put_list(dst, 16_512, &textures);
+    s.material.put(dst, 17_024);
+    put_list(dst, 17_092, &lights);
+    s.light_enabled.put(dst, 17_924);
+    s.light_defined_mask.put(dst, 17_925);
+    s.ff_vs_dirty.put(dst, 17_926);
+    0u8.put(dst, 17_927);
+    s.world_palette_high_water.put(dst, 17_928);
+    s.overflow_count.put(dst, 17_930);
+    put_list(dst, 17_932, &entries);
+    s.render_states.put(dst, 24_204);
+    u32::from(s.tt_active_mask).put(dst, 24_220);
+    Ok(())
 }

@@ -14,7 +14,7 @@ use Rattle.light_table.specs.Overflow.{used_count}
 use Rattle.ff_state.specs.Overflow.{used}
 use Rattle.ff_state.specs.State.{no_matrix}
 use Rattle.d3d9_model.specs.State.{AbstractLight}
-use Rattle.image_lists.specs.Entry.{entry_at}
+use Rattle.codec.specs.Entry.{entry_at}
 use Rattle.image_lists.specs.Lists.{list_at}
 use Rattle.image_reasons.specs.Reasons.{count_of, refused}
 use Rattle.image_reasons.proofs.Accepted.{accepted}

@@ -23,7 +23,7 @@ use Rattle.light_table.specs.Overflow.{used_count}
 use Rattle.light_table.specs.declared.entry.OverflowLight.{OverflowLight}
 use Rattle.ff_state.specs.State.{no_matrix}
 use Rattle.ff_state.specs.Valid.{Valid, SlotsValid, OverflowValid, FloatsValid}
-use Rattle.image_lists.specs.Entry.{entry_at}
+use Rattle.codec.specs.Entry.{entry_at}
 use Rattle.image_lists.specs.Lists.{list_at}
 use Rattle.image_lists.specs.Masks.{set_mask, type_mask, slot_set, slot_is}
 use Rattle.image_reasons.specs.Length.{entries_end}

@@ -15,7 +15,7 @@ use Rattle.codec.specs.Material.{material_bytes, material_at}
 use Rattle.codec.specs.Light.{light_bytes, light_at}
 use Rattle.codec.specs.RenderStates.{states_bytes, states_at}
 use Rattle.codec.proofs.Laws.Little.{length-little_bytes, number_at_lt}
-use Rattle.image_lists.specs.Entry.{entry_bytes, entry_at}
+use Rattle.codec.specs.Entry.{entry_bytes, entry_at}
 use Rattle.image_lists.specs.Lists.{list_at}
 use Rattle.image_lists.proofs.Reading.{length_list_at}
 use Rattle.image_reasons.proofs.Meaning.{WrittenAsRead}

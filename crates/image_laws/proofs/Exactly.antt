@@ -18,7 +18,7 @@ use Rattle.d3d9_types.specs.declared.material.D3DMATERIAL9.{D3DMATERIAL9}
 use Rattle.d3d9_types.specs.declared.matrix.D3DMATRIX.{D3DMATRIX}
 use Rattle.d3d9_types.specs.declared.render_states.RenderStates.{RenderStates}
 use Rattle.light_table.specs.declared.entry.OverflowLight.{OverflowLight}
-use Rattle.image_lists.specs.Entry.{entry_bytes}
+use Rattle.codec.specs.Entry.{entry_bytes}
 use Rattle.image_lists.specs.Lists.{list_bytes}
 use Rattle.image_reasons.specs.Reasons.{refused}
 use Rattle.image.specs.Format.{image_bytes, image_table}

@@ -27,10 +27,10 @@ use Rattle.light_table.specs.Entry.{zero_entry}
 use Rattle.light_table.specs.declared.entry.OverflowLight.{OverflowLight}
 use Rattle.ff_state.specs.State.{no_matrix, dirty_word}
 use Rattle.ff_state.specs.declared.state.FfState.{FfState}
-use Rattle.image_lists.specs.Entry.{entry_bytes, entry_at}
+use Rattle.codec.specs.Entry.{entry_bytes, entry_at}
 use Rattle.image_lists.specs.Lists.{list_bytes, list_at}
 use Rattle.image_lists.proofs.Back.{entryFits, matrices_start, lights_start, entries_start}
-use Rattle.image_lists.proofs.Entry.{entry_at_skips}
+use Rattle.codec.proofs.Laws.Entry.{entry_at_skips}
 use Rattle.image_lists.proofs.Reading.{list_at_skips}
 use Rattle.image.specs.Format.{image_bytes, image_table, Sized}
 use Rattle.image.specs.Table.{field}

@@ -23,7 +23,7 @@ use Rattle.codec.specs.Material.{material_bytes}
 use Rattle.codec.specs.Light.{light_bytes}
 use Rattle.codec.specs.RenderStates.{states_bytes}
 use Rattle.light_table.specs.declared.entry.OverflowLight.{OverflowLight}
-use Rattle.image_lists.specs.Entry.{entry_bytes}
+use Rattle.codec.specs.Entry.{entry_bytes}
 use Rattle.image_reasons.specs.Every.{every_below}
 use Rattle.image_lists.specs.Lists.{list_bytes}
 use Rattle.image_reasons.specs.Tests.{plain_at, nan_free, same_bytes, same_byte}

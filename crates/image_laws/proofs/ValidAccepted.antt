@@ -23,14 +23,14 @@ use Rattle.light_table.specs.declared.entry.OverflowLight.{OverflowLight}
 use Rattle.ff_state.specs.State.{no_matrix}
 use Rattle.ff_state.specs.Valid.{Valid, slot_light}
 use Rattle.ff_state.specs.declared.state.FfState.{FfState}
-use Rattle.image_lists.specs.Entry.{entry_bytes, entry_at}
+use Rattle.codec.specs.Entry.{entry_bytes, entry_at}
 use Rattle.image_reasons.specs.Length.{entries_end, image_length}
 use Rattle.image_lists.specs.Lists.{list_bytes, list_at}
 use Rattle.image_reasons.specs.Tests.{nan_free, lights_nan_free, plain_light, entries_nan_free, plain_entry, ascends, flags, flag_at, zeros, zero_byte, bits_defined, bit_defined, slots_default, slot_default, default_at}
 use Rattle.image_reasons.specs.Reasons.{count_of, refused}
 use Rattle.image_reasons.proofs.Accepted.{Accepted, not-refused}
 use Rattle.image_reasons.proofs.Every.{every_is}
-use Rattle.image_lists.proofs.Entry.{length-entry_bytes}
+use Rattle.codec.proofs.Laws.Entry.{length-entry_bytes}
 use Rattle.image_lists.proofs.Reading.{get_d_list_at, take_list_at}
 use Rattle.image_reasons.proofs.Unused.{zero_bytes}
 use Rattle.image.specs.Format.{image_bytes}

@@ -36,7 +36,7 @@ use Rattle.codec.specs.Light.{light_bytes}
 use Rattle.codec.specs.RenderStates.{states_bytes}
 use Rattle.codec.proofs.Laws.Little.{length-little_bytes}
 use Rattle.light_table.specs.declared.entry.OverflowLight.{OverflowLight}
-use Rattle.image_lists.specs.Entry.{entry_bytes}
+use Rattle.codec.specs.Entry.{entry_bytes}
 use Rattle.image_lists.specs.Lists.{list_bytes}
 use Rattle.image_reasons.specs.Tests.{plain_word, plain_at, nan_free}
 use Rattle.image_reasons.proofs.Every.{every_is}

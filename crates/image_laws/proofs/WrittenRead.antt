@@ -13,13 +13,13 @@ use Rattle.codec.specs.Matrix.{matrix_bytes, matrix_at}
 use Rattle.codec.specs.Light.{light_bytes, light_at}
 use Rattle.codec.proofs.Laws.Matrix.{length-matrix_bytes}
 use Rattle.codec.proofs.Laws.Light.{length-light_bytes}
-use Rattle.image_lists.specs.Entry.{entry_bytes, entry_at}
+use Rattle.codec.specs.Entry.{entry_bytes, entry_at}
 use Rattle.image_reasons.specs.Length.{image_length}
 use Rattle.image_lists.specs.Lists.{list_bytes, list_at}
 use Rattle.image_reasons.specs.Reasons.{refused}
 use Rattle.image_reasons.proofs.Accepted.{Accepted, accepted}
 use Rattle.image_reasons.proofs.Meaning.{floats_back, light_floats_back, entry-floats_back}
-use Rattle.image_lists.proofs.Entry.{length-entry_bytes}
+use Rattle.codec.proofs.Laws.Entry.{length-entry_bytes}
 use Rattle.image.specs.Format.{image_bytes, image_table}
 use Rattle.image.specs.Read.{state_of}
 use Rattle.image.proofs.Format.{image_tiles, length_image_bytes, valid_sized}

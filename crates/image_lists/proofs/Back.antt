@@ -13,9 +13,9 @@ use Rattle.codec.proofs.Inside.{Starts}
 use Rattle.codec.proofs.Laws.Light.{length-light_bytes, light_at_skips, light_at_starts}
 use Rattle.codec.proofs.Laws.Matrix.{length-matrix_bytes, matrix_at_skips, matrix_at_starts}
 use Rattle.light_table.specs.declared.entry.OverflowLight.{OverflowLight}
-use Rattle.image_lists.specs.Entry.{entry_bytes, entry_at}
+use Rattle.codec.specs.Entry.{entry_bytes, entry_at}
 use Rattle.image_lists.specs.Lists.{list_bytes, list_at}
-use Rattle.image_lists.proofs.Entry.{length-entry_bytes, entry_at_skips, entry_at_starts}
+use Rattle.codec.proofs.Laws.Entry.{length-entry_bytes, entry_at_skips, entry_at_starts}
 use Rattle.image_lists.proofs.Reading.{list_at_starts}
 
 pub matrices_start : (d : D3DMATRIX) (ms : List D3DMATRIX) → ((i : ℕ) → i < length ms → matrixFits (get_or ms i d)) → Starts (list_at matrix_at 64 (length ms)) (list_bytes matrix_bytes ms) ms

@@ -1,6 +1,4 @@
 pub mod Reading
 pub mod Writing
-pub mod Entry
 pub mod Back
 pub mod Mask
-pub mod Zeros

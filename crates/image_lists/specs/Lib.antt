@@ -1,3 +1,3 @@
 pub mod Lists
-pub mod Entry
 pub mod Masks
+pub mod Types

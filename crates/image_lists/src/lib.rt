@@ -4,8 +4,9 @@
 
 mod masks;
 mod read;
+mod types;
 mod write;
 
 pub use masks::{set_mask, type_mask};
-pub use read::{entries_at, lights_at, palette_at, textures_at};
-pub use write::{put_entries, put_lights, put_palette, put_textures, put_zeros};
+pub use read::list_at;
+pub use write::{put_list, put_zeros};

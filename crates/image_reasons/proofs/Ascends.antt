@@ -10,7 +10,7 @@ use mathlib.Core.List.{List}
 use borrow.Author.Tests.{le-leb, lt-leb}
 use Rattle.codec.specs.Little.{number_at}
 use Rattle.light_table.specs.Overflow.{ascending}
-use Rattle.image_lists.specs.Entry.{entry_at}
+use Rattle.codec.specs.Entry.{entry_at}
 use Rattle.image_lists.specs.Lists.{list_at}
 use Rattle.image_reasons.specs.Tests.{ascends}
 

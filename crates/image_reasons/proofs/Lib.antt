@@ -1,6 +1,5 @@
 pub mod Every
 pub mod Ascends
-pub mod Either
 pub mod Numbers
 pub mod Meaning
 pub mod Unused

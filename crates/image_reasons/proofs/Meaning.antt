@@ -21,7 +21,7 @@ use Rattle.codec.proofs.Inside.{Skips, Starts, inside}
 use Rattle.codec.proofs.Laws.Light.{length-light_bytes, light_at_skips, light_at_starts}
 use Rattle.words.specs.Bits.{has_bit}
 use Rattle.light_table.specs.Overflow.{ascending}
-use Rattle.image_lists.specs.Entry.{entry_at}
+use Rattle.codec.specs.Entry.{entry_at}
 use Rattle.image_lists.specs.Lists.{list_at}
 use Rattle.image_reasons.specs.Tests.{plain_word, plain_at, nan_free, plain_light, lights_nan_free, plain_entry, entries_nan_free, ascends, flags, flag_at, same_bytes, same_byte, default_at, slot_default, slots_default, bit_defined, bits_defined}
 use Rattle.image_reasons.proofs.Every.{every_holds}

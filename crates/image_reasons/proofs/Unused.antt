@@ -19,10 +19,10 @@ use Rattle.codec.specs.Light.{light_bytes}
 use Rattle.light_table.specs.Entry.{zero_light, zero_entry}
 use Rattle.light_table.proofs.ZeroLight.{zero_light_fits}
 use Rattle.light_table.specs.declared.entry.OverflowLight.{OverflowLight}
-use Rattle.image_lists.specs.Entry.{entry_bytes, entry_at}
+use Rattle.codec.specs.Entry.{entry_bytes, entry_at}
 use Rattle.image_lists.specs.Lists.{list_at}
 use Rattle.image_reasons.specs.Tests.{zeros, zero_byte, same_bytes, same_byte}
-use Rattle.image_lists.proofs.Entry.{length-entry_bytes, entry_at_skips, entry_at_starts}
+use Rattle.codec.proofs.Laws.Entry.{length-entry_bytes, entry_at_skips, entry_at_starts}
 use Rattle.image_reasons.proofs.Every.{every_holds, every_is}
 use Rattle.image_lists.proofs.Reading.{length_list_at, get_d_list_at}
 use Rattle.image_reasons.proofs.Meaning.{same_reads}

@@ -5,7 +5,7 @@ use Rattle.codec.specs.Little.{number_at}
 use Rattle.codec.specs.Light.{light_bytes}
 use Rattle.words.specs.Bits.{has_bit}
 use Rattle.light_table.specs.Overflow.{ascending}
-use Rattle.image_lists.specs.Entry.{entry_at}
+use Rattle.codec.specs.Entry.{entry_at}
 use Rattle.image_reasons.specs.Every.{every_below}
 use Rattle.image_lists.specs.Lists.{list_at}
 

@@ -7,7 +7,7 @@ use crate::tests::{
     bits_defined, entries_ascending, entries_nan_free, flags_ok, lights_nan_free, nan_free,
     slots_default, zeros_at,
 };
-use codec::{u8_at, u16_at, u32_at};
+use codec::Stored;
 
 const ENTRIES_END: usize = 24_204;
 
@@ -16,80 +16,61 @@ pub const TAIL_LENGTH: usize = 20;
 
 pub const IMAGE_LENGTH: usize = ENTRIES_END + TAIL_LENGTH;
 
+// The clause on the length stands at four private functions: a struct around the slice would need a constructor under the
+// same clause, for the one caller below.
+
+// `|`, since all four are read: the four tests are one expression.
 fn numbers_refused(s: &[u8]) -> bool
     requires { image_length ≤ length s.now }
     ensures { result ≡ numbers_refused s.now }
 {
-    if 255 < u32_at(s, 24_220) {
-        return true;
-    }
-    if u8_at(s, 17_927) != 0 {
-        return true;
-    }
-    if 255 < u16_at(s, 17_928) {
-        return true;
-    }
-    56 < u16_at(s, 17_930)
+    let mask = 255 < u32::read(s, 24_220);
+    let zero = u8::read(s, 17_927) != 0;
+    let index = 255 < u16::read(s, 17_928);
+    let count = 56 < u16::read(s, 17_930);
+    mask | zero | index | count
 }
 
+#[tactic(auto, unfolding(crate::specs::Reasons::entries_refused))]
 fn entries_refused(s: &[u8]) -> bool
     requires { (image_length ≤ length s.now) × (count_of s.now ≤ 56) }
     ensures { result ≡ entries_refused s.now }
 {
-    let n = u16_at(s, 17_930) as usize;
-    if !entries_ascending(s, 17_932, n) {
-        return true;
-    }
-    if !flags_ok(s, 17_932, n) {
-        return true;
-    }
+    let n = u16::read(s, 17_930) as usize;
     let from = 17_932 + 112 * n;
-    !zeros_at(s, from, ENTRIES_END - from)
+    !entries_ascending(s, 17_932, n)
+        || !flags_ok(s, 17_932, n)
+        || !zeros_at(s, from, ENTRIES_END - from)
 }
 
 fn slots_refused(s: &[u8]) -> bool
     requires { image_length ≤ length s.now }
     ensures { result ≡ slots_refused s.now }
 {
-    let enabled = u8_at(s, 17_924);
-    let defined = u8_at(s, 17_925);
-    if !bits_defined(enabled, defined) {
-        return true;
-    }
-    !slots_default(s, 17_092, defined)
+    let enabled = u8::read(s, 17_924);
+    let defined = u8::read(s, 17_925);
+    !bits_defined(enabled, defined) || !slots_default(s, 17_092, defined)
 }
 
+#[tactic(auto, unfolding(crate::specs::Reasons::another_nan))]
 fn another_nan(s: &[u8]) -> bool
     requires { image_length ≤ length s.now }
     ensures { result ≡ another_nan s.now }
 {
-    if !nan_free(s, 0, 4_273) {
-        return true;
-    }
-    if !lights_nan_free(s, 17_092) {
-        return true;
-    }
-    if !entries_nan_free(s, 17_932) {
-        return true;
-    }
-    !nan_free(s, 24_204, 3)
+    !(nan_free(s, 0, 4_273)
+        && lights_nan_free(s, 17_092)
+        && entries_nan_free(s, 17_932)
+        && nan_free(s, 24_204, 3))
 }
 
 // Whether some reason for 9 holds.
+#[tactic(auto, using(crate::proofs::Numbers::few_entries), unfolding(crate::specs::Reasons::refused))]
 pub fn image_refused(s: &[u8]) -> bool
     ensures { result ≡ refused s.now }
 {
-    if s.len() != IMAGE_LENGTH {
-        return true;
-    }
-    if numbers_refused(s) {
-        return true;
-    }
-    if entries_refused(s) {
-        return true;
-    }
-    if slots_refused(s) {
-        return true;
-    }
-    another_nan(s)
+    s.len() != IMAGE_LENGTH
+        || numbers_refused(s)
+        || entries_refused(s)
+        || slots_refused(s)
+        || another_nan(s)
 }

@@ -1,46 +1,42 @@
-// Tests of bytes from a place on. Document 01, 'State image'.
+// Tests of bytes from a place on. Document 01, 'State image'. A place and a count, not a part of the slice: so the definitions speak.
 ghost use Rattle.std.specs.Prelude.{◌≡◌, ◌+◌, ◌*◌, ◌≤◌, ◌<◌, length};
 ghost use Rattle.image_reasons.specs.Tests.{plain_word, nan_free, lights_nan_free, entries_nan_free, zeros, ascends, flags, same_bytes, default_at, slot_default, slots_default, bit_defined, bits_defined};
 
-use codec::{put_light, u32_at};
-use d3d9_types::default_light;
+use codec::Stored;
+use d3d9_types::D3DLIGHT9;
 use words::has_bit;
 
+#[tactic(auto, unfolding(crate::specs::Tests::plain_word))]
 fn plain_word(n: u32) -> bool
     ensures { result ≡ plain_word n }
 {
-    if n % 0x8000_0000 <= 0x7F80_0000 {
-        return true;
-    }
-    n == 0x7FC0_0000
+    n % 0x8000_0000 <= 0x7F80_0000 || n == 0x7FC0_0000
 }
 
-// This loop and that of zeros_at look at all, so that several are looked at in one instruction.
+// This loop and that of zeros_at look at all, so that several are looked at in one instruction: `all` would stop early.
 pub fn nan_free(s: &[u8], at: usize, n: usize) -> bool
     requires { at + 4 * n ≤ length s.now }
     ensures { result ≡ nan_free n s.now at }
 {
-    let mut i = 0usize;
     let mut all = true;
-    while i < n {
-        if !plain_word(u32_at(s, at + 4 * i)) {
+    for i in 0..n {
+        if !plain_word(u32::read(s, at + 4 * i)) {
             all = false;
         }
-        i = i + 1;
     }
     all
 }
 
+// The lights and the entries are told apart by how many they are, how far apart, and where the first float stands: a function over all
+// three would be no plainer than its two calls.
 pub fn lights_nan_free(s: &[u8], at: usize) -> bool
     requires { at + 832 ≤ length s.now }
     ensures { result ≡ lights_nan_free s.now at }
 {
-    let mut i = 0usize;
-    while i < 8 {
+    for i in 0..8usize {
         if !nan_free(s, at + 104 * i + 4, 25) {
             return false;
         }
-        i = i + 1;
     }
     true
 }
@@ -49,12 +45,10 @@ pub fn entries_nan_free(s: &[u8], at: usize) -> bool
     requires { at + 6272 ≤ length s.now }
     ensures { result ≡ entries_nan_free s.now at }
 {
-    let mut i = 0usize;
-    while i < 56 {
+    for i in 0..56usize {
         if !nan_free(s, at + 112 * i + 12, 25) {
             return false;
         }
-        i = i + 1;
     }
     true
 }
@@ -63,13 +57,11 @@ pub fn zeros_at(s: &[u8], at: usize, n: usize) -> bool
     requires { at + n ≤ length s.now }
     ensures { result ≡ zeros n s.now at }
 {
-    let mut i = 0usize;
     let mut all = true;
-    while i < n {
+    for i in 0..n {
         if s[at + i] != 0 {
             all = false;
         }
-        i = i + 1;
     }
     all
 }
@@ -78,20 +70,12 @@ pub fn flags_ok(s: &[u8], at: usize, n: usize) -> bool
     requires { at + 112 * n ≤ length s.now }
     ensures { result ≡ flags n s.now at }
 {
-    let mut i = 0usize;
-    while i < n {
-        if 1 < u32_at(s, at + 112 * i + 4) {
+    for i in 0..n {
+        if 1 < u32::read(s, at + 112 * i + 4) {
             return false;
         }
-        i = i + 1;
     }
     true
-}
-
-fn wide(x: u32) -> u64
-    ensures { (result ≡ x) × (result < 0x1_0000_0000) }
-{
-    x as u64
 }
 
 // `from` is one above the index before, which may be the largest u32.
@@ -100,14 +84,12 @@ pub fn entries_ascending(s: &[u8], at: usize, n: usize) -> bool
     ensures { result ≡ ascends n s.now at }
 {
     let mut from = 8u64;
-    let mut i = 0usize;
-    while i < n {
-        let index = wide(u32_at(s, at + 112 * i));
+    for i in 0..n {
+        let index = u64::from(u32::read(s, at + 112 * i));
         if index < from {
             return false;
         }
         from = index + 1;
-        i = i + 1;
     }
     true
 }
@@ -116,22 +98,21 @@ fn same_at(s: &[u8], at: usize, ws: &[u8]) -> bool
     requires { at + length ws.now ≤ length s.now }
     ensures { result ≡ same_bytes ws.now s.now at }
 {
-    let mut i = 0usize;
-    while i < ws.len() {
-        if s[at + i] != ws[i] {
+    for (i, w) in ws.iter().enumerate() {
+        if s[at + i] != *w {
             return false;
         }
-        i = i + 1;
     }
     true
 }
 
+#[tactic(auto, unfolding(crate::specs::Tests::default_at))]
 fn default_light_at(s: &[u8], at: usize) -> bool
     requires { at + 104 ≤ length s.now }
     ensures { result ≡ default_at s.now at }
 {
     let mut d = [0u8; 104];
-    put_light(&mut d, 0, default_light());
+    D3DLIGHT9::default().put(&mut d, 0);
     same_at(s, at, &d)
 }
 
@@ -139,22 +120,17 @@ fn slot_default(s: &[u8], at: usize, defined: u8, i: u32) -> bool
     requires { (at + 832 ≤ length s.now) × (i < 8) }
     ensures { result ≡ slot_default defined s.now at i }
 {
-    if has_bit(defined, i) {
-        return true;
-    }
-    default_light_at(s, at + 104 * i as usize)
+    has_bit(defined, i) || default_light_at(s, at + 104 * i as usize)
 }
 
 pub fn slots_default(s: &[u8], at: usize, defined: u8) -> bool
     requires { at + 832 ≤ length s.now }
     ensures { result ≡ slots_default defined s.now at }
 {
-    let mut i = 0u32;
-    while i < 8 {
+    for i in 0..8u32 {
         if !slot_default(s, at, defined, i) {
             return false;
         }
-        i = i + 1;
     }
     true
 }
@@ -163,21 +139,16 @@ fn bit_defined(enabled: u8, defined: u8, i: u32) -> bool
     requires { i < 8 }
     ensures { result ≡ bit_defined enabled defined i }
 {
-    if has_bit(enabled, i) {
-        return has_bit(defined, i);
-    }
-    true
+    !has_bit(enabled, i) || has_bit(defined, i)
 }
 
 pub fn bits_defined(enabled: u8, defined: u8) -> bool
     ensures { result ≡ bits_defined enabled defined }
 {
-    let mut i = 0u32;
-    while i < 8 {
+    for i in 0..8u32 {
         if !bit_defined(enabled, defined, i) {
             return false;
         }
-        i = i + 1;
     }
     true
 }

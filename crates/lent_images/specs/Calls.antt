@@ -3,11 +3,6 @@ use Rattle.std.specs.Prelude.{ℕ, List}
 use Rattle.ff_state.specs.declared.state.FfState.{FfState}
 use Rattle.image.specs.Read.{read_image, read_number}
 use Rattle.image.specs.Write.{write_image, write_number}
-use Rattle.image.specs.declared.read.ImageRead.{ImageRead}
-use Rattle.lent_images.specs.declared.images.Numbered.{Numbered}
-
-abbrev pub numbered : ImageRead → Numbered
-numbered c = record { number = read_number c.answer; state = c.state }
 
 abbrev pub ff_state_read_image : FfState → List ℕ → ℕ × FfState
 ff_state_read_image s bytes = (read_number (read_image s bytes).answer, (read_image s bytes).state)

@@ -9,4 +9,3 @@ pub use lights::{
     ff_state_set_light_at, ff_state_set_light_enabled_at, ff_state_vs_source_light_inputs,
 };
 pub use slots::Masks;
-pub use table::Table;

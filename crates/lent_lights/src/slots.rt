@@ -4,9 +4,10 @@ ghost use Rattle.ff_state.specs.Dirty.{dirtied};
 ghost use Rattle.ff_state.specs.Slots.{set_slot, define_slot, enable_slot};
 ghost use Rattle.lent_lights.specs.Masks.{masks_with};
 
-use d3d9_types::{D3DLIGHT_DIRECTIONAL, D3DLIGHT_SPOT, D3DLIGHT9, default_light};
+use d3d9_types::{D3DLIGHT_DIRECTIONAL, D3DLIGHT_SPOT, D3DLIGHT9};
 use ff_state::FfState;
 use light_table::light_type_contributes;
+use sections::LIGHTS;
 use words::{has_bit, with_bit};
 
 // The masks that follow from the lights in the slots.
@@ -18,7 +19,7 @@ pub struct Masks {
     pub spot: u8,
 }
 
-// The masks with a light of type `kind` in slot i.
+// The masks with a light of type `kind`, a number of C's record, in slot i.
 pub fn masks_with(m: Masks, i: u32, kind: u32) -> Masks
     requires { i < 8 }
     ensures { result ≡ masks_with m i kind }
@@ -52,7 +53,7 @@ pub fn store_slot(s: &mut FfState, i: u32, light: D3DLIGHT9)
     s.light_defined_mask = m.defined;
     s.light_directional_mask = m.directional;
     s.light_spot_mask = m.spot;
-    s.ff_vs_dirty = s.ff_vs_dirty | 8;
+    s.ff_vs_dirty |= LIGHTS;
 }
 
 // The default light stored in slot i where none is. The bit is marked in either case.
@@ -62,10 +63,10 @@ pub fn define_slot(s: &mut FfState, i: u32)
     ensures { s.new ≡ dirtied (define_slot s.old i) 8 }
 {
     if has_bit(s.light_defined_mask, i) {
-        s.ff_vs_dirty = s.ff_vs_dirty | 8;
+        s.ff_vs_dirty |= LIGHTS;
         return;
     }
-    store_slot(s, i, default_light());
+    store_slot(s, i, D3DLIGHT9::default());
 }
 
 // Slot i enabled, or, by the number 0, disabled.

@@ -3,11 +3,7 @@
 
 mod dirty;
 mod host;
-mod lights;
 mod mirror;
-mod number;
-mod palette;
-mod textures;
 
 pub use host::ff_state_refresh;
 pub use mirror::refresh;

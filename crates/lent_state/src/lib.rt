@@ -1,6 +1,6 @@
 // The state lent by reference: the calls of `ff_state` in place, which `lent_state_c` exports. The state
 // and what a call reads lie in the host's memory as Direct3D's own structs; every answer is document 01's
-// number, and a refused call changes nothing.
+// number, as C takes it, and a refused call changes nothing.
 #![tactic(auto)]
 
 mod dirty;

@@ -1,4 +1,4 @@
--- Worked examples, computed: they hold the definitions to document 01, so that bending code and definition alike does not go unseen. Assumes nothing.
+-- Worked examples, computed: they hold the definitions to document 01, so that bending code and definition alike does not go unseen.
 use Prim.Native.Nat.{ℕ}
 use mathlib.Core.Path.{◌≡◌, refl}
 use lib.IntN.{pos}

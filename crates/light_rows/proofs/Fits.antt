@@ -1,4 +1,4 @@
--- Every float of a light's rows is an f32 value. Assumes nothing.
+-- Every float of a light's rows is an f32 value.
 use Prim.Native.Nat.{ℕ}
 use mathlib.Core.Bool.{cond}
 use mathlib.Core.List.{List}

@@ -1,3 +1,4 @@
 pub mod Fits
 mod Examples
 pub mod Scene
+pub mod Literals

@@ -1,5 +1,5 @@
 -- A scene, computed: a spot light of 25 different numbers under a view that no row of it leaves as it is, then the orders of the sums. The expected bits are the Rust's (`oracle/run scene`).
--- Assumes nothing.
+--
 use Prim.Native.Nat.{◌^◌}
 use mathlib.Core.Path.{◌≡◌, refl}
 use mathlib.Core.Bool.{false}

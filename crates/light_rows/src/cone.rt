@@ -1,4 +1,4 @@
-// The cone of a spot light as a scale and an offset: the shader multiplies and adds once.
+// The cone of a spot light as a scale and an offset: the shader multiplies and adds once. The kind is the number of C's record.
 ghost use Rattle.std.specs.Prelude.{◌≡◌};
 ghost use Rattle.light_rows.specs.Cone.{cone_of};
 
@@ -12,6 +12,7 @@ pub struct Cone {
     pub offset: f32,
 }
 
+#[tactic(auto, using(crate::proofs::Literals::half_is, d3d9_types::proofs::Literals::zero_is, d3d9_types::proofs::Literals::one_is), unfolding(crate::specs::Cone::cone_of, crate::specs::Cone::spot_scale, crate::specs::Cone::half_cosine))]
 pub fn cone_of(kind: u32, theta: f32, phi: f32) -> Cone
     ensures { result ≡ cone_of kind theta phi }
 {

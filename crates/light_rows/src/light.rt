@@ -34,6 +34,7 @@ fn rgb_row(c: D3DCOLORVALUE, w: f32) -> Row
     }
 }
 
+// No plainer as one function with `rgb_row`: a trait over both records would list their fields again, in two impls.
 fn xyz_row(v: D3DVECTOR, w: f32) -> Row
     ensures { result ≡ xyz_row v w }
 {
@@ -45,19 +46,19 @@ fn xyz_row(v: D3DVECTOR, w: f32) -> Row
     }
 }
 
-// The type as the shader reads it.
+// The type as the shader reads it: a number of the record, any u32, to a float of a row.
+#[tactic(auto, using(crate::proofs::Literals::one_is, crate::proofs::Literals::two_is, crate::proofs::Literals::three_is), unfolding(crate::specs::Light::kind_of))]
 fn kind_of(kind: u32) -> f32
     ensures { result ≡ kind_of kind }
 {
-    if kind == D3DLIGHT_DIRECTIONAL {
-        return 3.0;
+    match kind {
+        D3DLIGHT_DIRECTIONAL => 3.0,
+        D3DLIGHT_SPOT => 2.0,
+        _ => 1.0,
     }
-    if kind == D3DLIGHT_SPOT {
-        return 2.0;
-    }
-    1.0
 }
 
+#[tactic(auto, unfolding(crate::specs::Light::light_rows))]
 fn light_rows(view: D3DMATRIX, l: D3DLIGHT9) -> LightRows
     ensures { result ≡ light_rows view l }
 {
@@ -79,6 +80,7 @@ fn light_rows(view: D3DMATRIX, l: D3DLIGHT9) -> LightRows
     }
 }
 
+#[tactic(auto, using(rows::proofs::Floats::six_rows))]
 fn write_light(dst: &mut [f32], at: usize, rows: LightRows)
     requires { at + 24 ≤ length dst.old }
     ensures { dst.new ≡ sets dst.old at (floats (six_rows rows)) }
@@ -91,16 +93,11 @@ fn write_light(dst: &mut [f32], at: usize, rows: LightRows)
     write_row(dst, at + 20, rows.specular);
 }
 
-// The first n lights.
-pub fn write_lights(dst: &mut [f32], view: D3DMATRIX, lights: [D3DLIGHT9; 8], n: usize)
-    requires { (n ≤ 8) × (length dst.old ≡ 24 * n) }
-    ensures { dst.new ≡ floats (lights_rows view (take n lights)) }
+pub fn write_lights(dst: &mut [f32], view: D3DMATRIX, lights: &[D3DLIGHT9])
+    requires { length dst.old ≡ 24 * length lights.now }
+    ensures { dst.new ≡ floats (lights_rows view lights.now) }
 {
-    let mut i = 0usize;
-    let mut at = 0usize;
-    while i < n {
-        write_light(dst, at, light_rows(view, lights[i]));
-        i = i + 1;
-        at = at + 24;
+    for i in 0..lights.len() {
+        write_light(dst, 24 * i, light_rows(view, lights[i]));
     }
 }

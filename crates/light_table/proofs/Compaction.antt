@@ -1,6 +1,6 @@
 -- Pushing lights one after another, up to a limit, gives the list of the first so many. Assumes nothing.
 use Prim.Native.Nat.{ℕ, suc, ◌+◌, ◌-◌, ◌*◌, ◌^◌, ◌≤◌, ◌<◌, zero-le}
-use native.Mathlib.Nat.{le_of_lt, le_refl, le_trans, lt_of_not-le, pow-suc, min-le_left}
+use native.Mathlib.Nat.{le_of_lt, le_refl, le_trans, lt_of_lt_of_le, lt_of_not-le, pow-suc, min-le_left}
 use native.Mathlib.Numerals.{add-one}
 use native.Mathlib.Omega.{arith}
 use mathlib.Core.Path.{◌≡◌, refl, sym, ap, ap₂, ◌∙◌}
@@ -10,14 +10,13 @@ use native.Mathlib.Decide.{dec_le}
 use lib.Dec.{eqb, lit<}
 use mir.Val.{bool_byte}
 use lib.ListN.{length, take, drop, get_or, set, replicate, length-append, length-take}
+use lib.Pow.{pow_mono}
 use mir.Val.{Fits}
 use mir.Syntax.{w8}
-use lib.Seq.{take-append_seam, drop-cons, get_or-take, take_all, take-append-le, length-take-le, set_at}
+use Rattle.std.proofs.lemmas.List.{nil_from_length}
+use lib.Seq.{take-append_seam, drop-cons, take_all, take-append-le, length-take-le, set_at}
 use borrow.Author.Tests.{lt-ltb, le-ltb}
 use Rattle.d3d9_types.specs.Light.{default_light}
-use lib.Ieee.{nan}
-use Rattle.d3d9_types.specs.declared.color.D3DCOLORVALUE.{D3DCOLORVALUE}
-use Rattle.d3d9_types.specs.declared.vector.D3DVECTOR.{D3DVECTOR}
 use Rattle.d3d9_types.specs.declared.light.D3DLIGHT9.{D3DLIGHT9}
 use Rattle.light_table.specs.Active.{slots_from, is_active, active_overflow, listed, no_lights, pushed, push_all, kind_mask}
 use Rattle.words.specs.Bits.{has_bit}
@@ -86,6 +85,13 @@ unfolding push_all
 push_if limit true a l ls = refl
 push_if limit false a l ls = refl
 
+module _ (limit : ℕ) (list a : ActiveLights) (l : D3DLIGHT9) (t : Bool) where
+  pub taken : t ≡ true → a ≡ pushed limit list l → a ≡ cond t (pushed limit list l) list
+  taken e f = rw e f
+
+  pub left_out : t ≡ false → a ≡ list → a ≡ cond t (pushed limit list l) list
+  left_out e f = rw e f
+
 -- ---- one turn of each loop: what is left to push, with and without the light at i
 
 slots-from : (i mask : ℕ) (ls : List D3DLIGHT9) (d : D3DLIGHT9) → i < length ls
@@ -119,30 +125,37 @@ unfolding kind_mask
 kind_mask_lt t [] = lit< tt
 kind_mask_lt t (l ∷ ls) = omega (arith, kind_mask_lt t ls, pow-suc 2 (length ls), flag_small_cond (eqb l.type_ t))
 
-kind_mask_from : (t i : ℕ) (ls : List D3DLIGHT9) (d : D3DLIGHT9) → i < length ls
-    → kind_mask t (drop i ls) ≡ kind_mask t (drop (suc i) ls) * 2 + bool_byte (eqb (get_or ls i d).type_ t)
+-- one light more in front
+pub kind_more : (t : ℕ) (l : D3DLIGHT9) (ls : List D3DLIGHT9) → kind_mask t ls * 2 + bool_byte (eqb l.type_ t) ≡ kind_mask t (l ∷ ls)
 unfolding kind_mask
-kind_mask_from t i ls d h = rw (drop-cons ls i d h) (ap (λ (n : ℕ). kind_mask t (drop (suc i) ls) * 2 + n) (sym (flag_is (eqb (get_or ls i d).type_ t))))
+kind_more t l ls = ap (λ (n : ℕ). kind_mask t ls * 2 + n) (flag_is (eqb l.type_ t))
 
--- a turn of the loop from the end: one light more in front
-pub kind_again : (t i n mask : ℕ) (ls : List D3DLIGHT9) (d : D3DLIGHT9) → 0 < i → i ≤ n → n ≤ length ls → mask ≡ kind_mask t (drop i (take n ls))
-    → mask * 2 + bool_byte (eqb (get_or ls (i - 1) d).type_ t) ≡ kind_mask t (drop (i - 1) (take n ls))
-kind_again t i n mask ls d p h l e =
-    let j : suc (i - 1) ≡ i = omega arith in
-    let long : length (take n ls) ≡ n = length-take-le n ls l in
-    ap₂ (λ (m : ℕ) (x : D3DLIGHT9). m * 2 + bool_byte (eqb x.type_ t)) (e ∙ ap (λ (k : ℕ). kind_mask t (drop k (take n ls))) (sym j)) (sym (get_or-take n ls (i - 1) d (omega arith)))
-    ∙ sym (kind_mask_from t (i - 1) (take n ls) d (omega arith))
+-- the mask of at most seven lights
+pub kind_small : (t : ℕ) (ls : List D3DLIGHT9) → length ls ≤ 7 → kind_mask t ls < 128
+kind_small t ls few = lt_of_lt_of_le (kind_mask_lt t ls) (pow_mono {i = length ls} {j = 7} few)
+
+-- some lights are left and the others done, of which the mask is
+module _ (t mask n : ℕ) (all rest done : List D3DLIGHT9) (parts : rest ++ done ≡ take n all) (is : mask ≡ kind_mask t done) where
+  -- where one is left, at most seven are done
+  pub kind_room : n ≤ 8 → (more : List D3DLIGHT9) (l : D3DLIGHT9) → rest ≡ more ++ (l ∷ []) → mask < 128
+  kind_room few more l e =
+      let long = simp length-append at (ap length parts) in
+      let left = simp length-append at (ap length e) in
+      rw is (kind_small t done (omega (arith, long, left, length-take n all)))
+
+  pub kind_turn : (more : List D3DLIGHT9) (l : D3DLIGHT9) → rest ≡ more ++ (l ∷ [])
+      → (more ++ (l ∷ done) ≡ take n all) × (mask * 2 + bool_byte (eqb l.type_ t) ≡ kind_mask t (l ∷ done))
+  kind_turn more l e = (
+    sym (append_assoc more (l ∷ []) done) ∙ ap (λ (r : List D3DLIGHT9). r ++ done) (sym e) ∙ parts,
+    ap (λ (m : ℕ). m * 2 + bool_byte (eqb l.type_ t)) is ∙ kind_more t l done,
+  )
+
+  pub kind_done : length rest ≡ 0 → mask ≡ kind_mask t (take n all)
+  kind_done e = is ∙ ap (kind_mask t) (ap (λ (r : List D3DLIGHT9). r ++ done) (sym (nil_from_length rest e)) ∙ parts)
 
 pub turn_fits : (m : ℕ) (b : Bool) → m < 128 → Fits w8 (m * 2 + bool_byte b)
 turn_fits m true h = omega arith
 turn_fits m false h = omega arith
-
--- what the language gives past the end of an array of lights
-abbrev pub no_light : D3DLIGHT9
-no_light =
-    let c : D3DCOLORVALUE = record { r = nan; g = nan; b = nan; a = nan } in
-    let v : D3DVECTOR = record { x = nan; y = nan; z = nan } in
-    record { type_ = 0; diffuse = c; specular = c; ambient = c; position = v; direction = v; range = nan; falloff = nan; attenuation0 = nan; attenuation1 = nan; attenuation2 = nan; theta = nan; phi = nan }
 
 -- ---- a listed list, read back
 

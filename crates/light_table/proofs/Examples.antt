@@ -3,6 +3,7 @@
 use mathlib.Core.Path.{◌≡◌, refl}
 use mathlib.Core.Bool.{true, false}
 use mathlib.Core.List.{List, [], ◌∷◌, ◌++◌, map}
+use Rattle.std.specs.Prelude.{Ok, Err}
 use lib.ListN.{take, replicate}
 use Rattle.light_table.specs.Entry.{zero_light, zero_entry, light_entry}
 use Rattle.light_table.specs.Kinds.{contributes}
@@ -13,10 +14,9 @@ abbrev two : List OverflowLight
 two = light_entry 9 1 zero_light ∷ light_entry 12 0 zero_light ∷ []
 
 -- where an index stands, or would stand, beside 9 and 12
-places : (map (λ i. (find_entry two i).at) (8 ∷ 9 ∷ 10 ∷ 12 ∷ 13 ∷ []) ≡ 0 ∷ 0 ∷ 1 ∷ 1 ∷ 2 ∷ [])
-    × (map (λ i. (find_entry two i).stored) (8 ∷ 9 ∷ 10 ∷ 12 ∷ 13 ∷ []) ≡ false ∷ true ∷ false ∷ true ∷ false ∷ [])
+places : map (find_entry two) (8 ∷ 9 ∷ 10 ∷ 12 ∷ 13 ∷ []) ≡ Err 0 ∷ Ok 0 ∷ Err 1 ∷ Ok 1 ∷ Err 2 ∷ []
 unfolding find_entry lower_bound
-places = (refl, refl)
+places = refl
 
 between : map (λ e. e.index) (take 4 (inserted_at 1 (light_entry 10 1 zero_light) (two ++ replicate 54 zero_entry))) ≡ 9 ∷ 10 ∷ 12 ∷ 0 ∷ []
 unfolding inserted_at zero_entry

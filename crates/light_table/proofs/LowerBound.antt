@@ -1,48 +1,48 @@
--- How the search for a lower bound goes through the first n entries, one by one. Assumes nothing.
+-- How the search for a lower bound goes through entries, one by one, and what it finds. Assumes nothing.
 use Prim.Native.Nat.{ℕ, suc, ◌≤◌, ◌<◌}
 use native.Mathlib.Nat.{min-le_right}
 use native.Mathlib.Omega.{arith}
-use mathlib.Core.Path.{◌≡◌, ap, ◌∙◌}
-use mathlib.Core.Bool.{true, false, and-eq-true_iff}
+use mathlib.Core.Path.{◌≡◌, refl}
+use mathlib.Core.Bool.{Bool, true, ◌&&◌, and-eq-true_iff, false≢true}
 use mathlib.Core.List.{List, [], ◌∷◌}
 use lib.Dec.{ltb, eqb}
-use lib.ListN.{length, get_or, take, drop}
-use lib.Seq.{slice-cons, slice_empty, length-take-le, get_or-take}
-use borrow.Author.Tests.{lt-ltb, le-ltb, ltb-true, eqb-true}
+use lib.ListN.{length, get_or, drop, drop_of_length-le}
+use lib.Seq.{drop-cons}
+use borrow.Author.Tests.{lt-ltb, le-ltb, ltb-true, eqb-true, eq-eqb, ne_eqb}
+use Rattle.std.specs.Prelude.{Result, Ok, Err, is_ok}
 use Rattle.light_table.specs.Entry.{zero_entry}
-use Rattle.light_table.specs.Overflow.{used_count, lower_bound, find_entry}
+use Rattle.light_table.specs.Overflow.{used_count, lower_bound, find_entry, place}
 use Rattle.lemmas.proofs.Branch.{branch}
 use Rattle.lemmas.proofs.Lists.{get_d_default}
 use Rattle.light_table.specs.declared.entry.OverflowLight.{OverflowLight}
 
-module _ (es : List OverflowLight) (n at i : ℕ) (d : OverflowLight) (full : length es ≡ 56) (most : n ≤ 56) (left : at < n) where
+module _ (es : List OverflowLight) (at i : ℕ) (d : OverflowLight) (left : at < length es) where
   -- an entry of a lower index is passed
-  pub passed : (get_or es at d).index < i → lower_bound (drop at (take n es)) i ≡ suc (lower_bound (drop (suc at) (take n es)) i)
+  pub passed : (get_or es at d).index < i → lower_bound (drop at es) i ≡ suc (lower_bound (drop (suc at) es) i)
   unfolding lower_bound
-  passed h = rw (slice-cons at n es d left (omega arith), lt-ltb (get_or es at d).index i h)
+  passed h = rw (drop-cons es at d left, lt-ltb (get_or es at d).index i h)
 
   -- the first that is not lower stops the search
-  pub stopped : i ≤ (get_or es at d).index → lower_bound (drop at (take n es)) i ≡ 0
+  pub stopped : i ≤ (get_or es at d).index → lower_bound (drop at es) i ≡ 0
   unfolding lower_bound
-  stopped h = rw (slice-cons at n es d left (omega arith), le-ltb (get_or es at d).index i h)
+  stopped h = rw (drop-cons es at d left, le-ltb (get_or es at d).index i h)
 
-pub exhausted : (es : List OverflowLight) (n i : ℕ) → lower_bound (drop n (take n es)) i ≡ 0
+pub exhausted : (es : List OverflowLight) (at i : ℕ) → length es ≤ at → lower_bound (drop at es) i ≡ 0
 unfolding lower_bound
-exhausted es n i = ap (λ (l : List OverflowLight). lower_bound l i) (slice_empty n es)
+exhausted es at i past = rw (drop_of_length-le es past)
 
-module _ (es : List OverflowLight) (n at i : ℕ) (d : OverflowLight) (full : length es ≡ 56) (most : n ≤ 56) (bound : at ≡ lower_bound (take n es) i) where
-  pub found_at : at < n → find_entry (take n es) i ≡ record { stored = eqb (get_or es at d).index i; at = at }
+module _ (es : List OverflowLight) (at i : ℕ) (d : OverflowLight) (bound : at ≡ lower_bound es i) where
+  pub found_at : at < length es → (get_or es at d).index ≡ i → Ok at ≡ find_entry es i
   unfolding find_entry
-  found_at h =
-      let l : length (take n es) ≡ n = length-take-le n es (omega arith) in
-      let e : get_or (take n es) at zero_entry ≡ get_or es at d = get_or-take n es at zero_entry h ∙ get_d_default es at zero_entry d (omega arith) in
-      rw (← bound, l, lt-ltb at n h, e)
+  found_at h e = rw (← bound, lt-ltb at (length es) h, get_d_default es at zero_entry d h, eq-eqb (get_or es at d).index i e)
 
-  pub not_found : n ≤ at → find_entry (take n es) i ≡ record { stored = false; at = at }
+  pub other_at : at < length es → ((get_or es at d).index ≡ i → ⊥) → Err at ≡ find_entry es i
   unfolding find_entry
-  not_found h =
-      let l : length (take n es) ≡ n = length-take-le n es (omega arith) in
-      rw (← bound, l, le-ltb at n h)
+  other_at h e = rw (← bound, lt-ltb at (length es) h, get_d_default es at zero_entry d h, ne_eqb (get_or es at d).index i e)
+
+  pub none_at : length es ≤ at → Err at ≡ find_entry es i
+  unfolding find_entry
+  none_at h = rw (← bound, le-ltb at (length es) h)
 
 pub used_most : (n m : ℕ) → n ≡ used_count m → n ≤ 56
 unfolding used_count
@@ -57,11 +57,22 @@ bound_most (e ∷ es) i =
     (λ t. omega arith)
 
 -- what is found stored stands among the entries, and has the index
-module _ (es : List OverflowLight) (i : ℕ) (h : (find_entry es i).stored ≡ true) where
-  pub stored_below : (find_entry es i).at < length es
-  unfolding find_entry
-  stored_below = ltb-true (lower_bound es i) (length es) ((and-eq-true_iff (ltb (lower_bound es i) (length es)) (eqb (get_or es (lower_bound es i) zero_entry).index i)).0 h).0
+module _ (es : List OverflowLight) (i : ℕ) where
+  abbrev there : Bool
+  there = ltb (lower_bound es i) (length es) && eqb (get_or es (lower_bound es i) zero_entry).index i
 
-  pub stored_index : (get_or es (find_entry es i).at zero_entry).index ≡ i
+  -- stored or not, it is at the lower bound
+  pub place_is : place (find_entry es i) ≡ lower_bound es i
   unfolding find_entry
-  stored_index = eqb-true (get_or es (lower_bound es i) zero_entry).index i ((and-eq-true_iff (ltb (lower_bound es i) (length es)) (eqb (get_or es (lower_bound es i) zero_entry).index i)).0 h).1
+  place_is = branch {A = Result ℕ ℕ} (λ f. place f ≡ lower_bound es i) there _ _ (λ t. refl) (λ t. refl)
+
+  is_there : is_ok (find_entry es i) ≡ true → there ≡ true
+  unfolding find_entry
+  is_there = branch {A = Result ℕ ℕ} (λ f. is_ok f ≡ true → there ≡ true) there _ _ (λ t h. t) (λ t h. absurd (false≢true h))
+
+  module _ (h : is_ok (find_entry es i) ≡ true) where
+    pub stored_below : place (find_entry es i) < length es
+    stored_below = rw place_is (ltb-true (lower_bound es i) (length es) ((and-eq-true_iff (ltb (lower_bound es i) (length es)) (eqb (get_or es (lower_bound es i) zero_entry).index i)).0 (is_there h)).0)
+
+    pub stored_index : (get_or es (place (find_entry es i)) zero_entry).index ≡ i
+    stored_index = rw place_is (eqb-true (get_or es (lower_bound es i) zero_entry).index i ((and-eq-true_iff (ltb (lower_bound es i) (length es)) (eqb (get_or es (lower_bound es i) zero_entry).index i)).0 (is_there h)).1)

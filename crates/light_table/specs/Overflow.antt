@@ -1,8 +1,7 @@
 -- The overflow entries, by ascending index: where an index stands, or would stand. Document 01, 'Rust forms to recast': "`BTreeMap` becomes 56 sorted entries with a count".
-use Rattle.std.specs.Prelude.{ℕ, suc, ◌-◌, min, Bool, true, cond, ◌&&◌, List, [], ◌∷◌, ◌++◌, ltb, leb, eqb, length, take, drop, get_or}
+use Rattle.std.specs.Prelude.{ℕ, suc, ◌-◌, min, Bool, true, cond, ◌&&◌, Result, Ok, Err, List, [], ◌∷◌, ◌++◌, ltb, leb, eqb, length, take, drop, get_or}
 use Rattle.light_table.specs.Entry.{zero_entry}
 use Rattle.light_table.specs.declared.entry.OverflowLight.{OverflowLight}
-use Rattle.light_table.specs.declared.overflow.Found.{Found}
 
 unfoldable pub used_count : ℕ → ℕ
 used_count n = min n 56
@@ -12,10 +11,16 @@ unfoldable pub lower_bound : List OverflowLight → ℕ → ℕ
 lower_bound [] i = 0
 lower_bound (e ∷ es) i = cond (ltb e.index i) (suc (lower_bound es i)) 0
 
-unfoldable pub find_entry : List OverflowLight → ℕ → Found
+-- Ok of where an index stands, or Err of where it would stand
+unfoldable pub find_entry : List OverflowLight → ℕ → Result ℕ ℕ
 find_entry es i =
     let at = lower_bound es i in
-    record { stored = ltb at (length es) && eqb (get_or es at zero_entry).index i; at = at }
+    cond (ltb at (length es) && eqb (get_or es at zero_entry).index i) (Ok at) (Err at)
+
+-- either
+abbrev pub place : Result ℕ ℕ → ℕ
+place (Ok at) = at
+place (Err at) = at
 
 -- strictly ascending indices, the first at least the given one
 unfoldable pub ascending : ℕ → List OverflowLight → Bool

@@ -1,15 +1,16 @@
 // Lists of active lights: of a type that contributes, and enabled. Packing wants them by ascending index.
 ghost use Rattle.std.specs.Prelude.{◌≡◌, ◌≤◌, ◌<◌, take, ◌++◌};
 ghost use Rattle.light_table.specs.Overflow.{used_count};
-ghost use Rattle.light_table.specs.Active.{active_slots, is_active, active_overflow, listed, no_lights, push_all, kind_mask, low_bits, four_bytes};
+ghost use Rattle.light_table.specs.Active.{active_slots, is_active, active_overflow, listed, no_lights, pushed, push_all, kind_mask, low_bits, four_bytes};
 
 use crate::entry::OverflowLight;
 use crate::kinds::light_type_contributes;
 use crate::overflow::used_count;
-use d3d9_types::{D3DLIGHT9, default_light};
+use d3d9_types::D3DLIGHT9;
 use words::has_bit;
 
-// The first `len` are used; the others are the default light.
+// The first `len` are used; the others are the default light. An array and a count, since there is no heap;
+// `kind_mask` alone asks that `len` is at most 8, so no type invariant says it.
 #[derive(Clone, Copy)]
 pub struct ActiveLights {
     pub lights: [D3DLIGHT9; 8],
@@ -26,63 +27,61 @@ pub struct LightMasks {
 pub fn is_active(e: OverflowLight) -> bool
     ensures { result ≡ is_active e }
 {
-    if e.enabled == 0 {
-        return false;
-    }
-    let light = e.light;
-    light_type_contributes(light.type_)
+    e.enabled != 0 && light_type_contributes(e.light.type_)
 }
 
+impl ActiveLights {
+    #[tactic(auto, unfolding(crate::specs::Active::no_lights))]
+    fn new() -> Self
+        ensures { result ≡ no_lights }
+    {
+        ActiveLights {
+            lights: [D3DLIGHT9::default(); 8],
+            len: 0,
+        }
+    }
+
+    // One more, up to the limit.
+    #[tactic(auto, unfolding(crate::specs::Active::pushed))]
+    fn push(&mut self, limit: usize, light: D3DLIGHT9)
+        requires { limit ≤ 8 }
+        ensures { self.new ≡ pushed limit self.old light }
+    {
+        if self.len < limit {
+            self.lights[self.len] = light;
+            self.len += 1;
+        }
+    }
+}
+
+// `limit` is 4 or 8, by the key; that it is at most 8 is said where a light is pushed, and by those that push.
 pub fn push_slots(lights: [D3DLIGHT9; 8], mask: u8, limit: usize) -> ActiveLights
     requires { limit ≤ 8 }
     ensures { result ≡ push_all limit no_lights (active_slots mask lights) }
 {
-    let mut list = ActiveLights {
-        lights: [default_light(); 8],
-        len: 0,
-    };
-    let mut i = 0usize;
-    while i < 8 {
-        let at = list.len;
+    let mut list = ActiveLights::new();
+    for (i, light) in lights.iter().enumerate() {
         if has_bit(mask, i as u32) {
-            if at < limit {
-                let light = lights[i];
-                list.lights[at] = light;
-                list.len = at + 1;
-            }
+            list.push(limit, *light);
         }
-        i = i + 1;
     }
     list
 }
 
-fn push_overflow(
-    entries: [OverflowLight; 56],
-    used: usize,
-    limit: usize,
-    first: ActiveLights,
-) -> ActiveLights
-    requires { (used ≤ 56) × (limit ≤ 8) }
-    ensures { result ≡ push_all limit first (active_overflow (take used entries)) }
+fn push_overflow(entries: &[OverflowLight], limit: usize, first: ActiveLights) -> ActiveLights
+    requires { limit ≤ 8 }
+    ensures { result ≡ push_all limit first (active_overflow entries.now) }
 {
     let mut list = first;
-    let mut i = 0usize;
-    while i < used {
-        let e = entries[i];
-        let at = list.len;
-        if is_active(e) {
-            if at < limit {
-                let light = e.light;
-                list.lights[at] = light;
-                list.len = at + 1;
-            }
+    for e in entries {
+        if is_active(*e) {
+            list.push(limit, e.light);
         }
-        i = i + 1;
     }
     list
 }
 
-// The first `limit` of the active lights of slots and table.
+// The first `limit` of the active lights of slots and table, whose parts come as the state holds them: an array and a count.
 pub fn active_lights(
     lights: [D3DLIGHT9; 8],
     mask: u8,
@@ -94,11 +93,11 @@ pub fn active_lights(
     ensures { result ≡ listed limit (active_slots mask lights ++ active_overflow (take (used_count count) entries)) }
 {
     let first = push_slots(lights, mask, limit);
-    let used = used_count(count);
-    push_overflow(entries, used, limit, first)
+    push_overflow(&entries[..used_count(count)], limit, first)
 }
 
 // The n lowest bits.
+#[tactic(auto, unfolding(crate::specs::Active::low_bits))]
 pub fn low_bits(n: usize) -> u8
     requires { n ≤ 8 }
     ensures { result ≡ low_bits n }
@@ -106,24 +105,22 @@ pub fn low_bits(n: usize) -> u8
     ((1u32 << n as u32) - 1) as u8
 }
 
-// Bit i says whether light i has this type.
+// Bit i says whether light i has this type, a number of C's record.
 pub fn kind_mask(list: ActiveLights, kind: u32) -> u8
     requires { list.len ≤ 8 }
     ensures { result ≡ kind_mask kind (take list.len list.lights) }
 {
-    let mut i = list.len;
     let mut mask = 0u8;
-    while 0 < i {
-        i = i - 1;
-        let l = list.lights[i];
-        mask = mask * 2 + (l.type_ == kind) as u8;
+    for light in list.lights[..list.len].iter().rev() {
+        mask = mask * 2 + (light.type_ == kind) as u8;
     }
     mask
 }
 
-// Four bytes as a number, the first lowest.
+// Four bytes as a number, the first lowest: the order of document 01, by its name there.
+#[tactic(auto, unfolding(crate::specs::Active::four_bytes))]
 pub fn four_bytes(a: u8, b: u8, c: u8, d: u8) -> u32
     ensures { result ≡ four_bytes a b c d }
 {
-    a as u32 + b as u32 * 0x100 + c as u32 * 0x1_0000 + d as u32 * 0x100_0000
+    u32::from_le_bytes([a, b, c, d])
 }

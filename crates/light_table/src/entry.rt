@@ -4,7 +4,7 @@ ghost use Rattle.light_table.specs.Entry.{zero_light};
 
 use d3d9_types::{D3DCOLORVALUE, D3DLIGHT9, D3DVECTOR};
 
-// A light beyond the eight slots. It is enabled by any number but 0.
+// A light beyond the eight slots. It is enabled by any number but 0: a u32, as the image and C have it.
 #[repr(C)]
 #[derive(Clone, Copy)]
 pub struct OverflowLight {
@@ -14,6 +14,7 @@ pub struct OverflowLight {
 }
 
 // The light of an unused entry: every number 0.
+#[tactic(auto, unfolding(crate::specs::Entry::zero_light))]
 pub fn zero_light() -> D3DLIGHT9
     ensures { result ≡ zero_light }
 {

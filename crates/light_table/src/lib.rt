@@ -12,4 +12,4 @@ pub use active::{
 };
 pub use entry::{OverflowLight, zero_light};
 pub use kinds::light_type_contributes;
-pub use overflow::{Found, find, inserted_at, used_count};
+pub use overflow::{find, insert_at, used_count};

@@ -1,66 +1,46 @@
 // The sorted entries of the lights from index 8 on.
-ghost use Rattle.std.specs.Prelude.{◌≡◌, ◌+◌, ◌≤◌, ◌<◌, take};
+ghost use Rattle.std.specs.Prelude.{◌≡◌, ◌≤◌, ◌<◌};
 ghost use Rattle.light_table.specs.Overflow.{used_count, lower_bound, find_entry, inserted_at};
 
 use crate::entry::OverflowLight;
 
-// Where the entry of an index stands, or would stand.
-#[derive(Clone, Copy)]
-pub struct Found {
-    pub stored: bool,
-    pub at: usize,
-}
-
 // A count above 56 reads as 56.
+#[tactic(auto, unfolding(crate::specs::Overflow::used_count))]
 pub fn used_count(count: u16) -> usize
-    ensures { result ≡ used_count count }
+    ensures value { result ≡ used_count count }
+    ensures within { result ≤ 56 }
 {
-    if count < 56 {
-        return count as usize;
-    }
-    56
+    (count as usize).min(56)
 }
 
 // The number of leading entries whose index is below the given one.
-fn lower_bound(entries: [OverflowLight; 56], used: usize, index: u32) -> usize
-    requires { used ≤ 56 }
-    ensures { result ≡ lower_bound (take used entries) index }
+fn lower_bound(entries: &[OverflowLight], index: u32) -> usize
+    ensures { result ≡ lower_bound entries.now index }
 {
-    let mut at = 0usize;
-    while at < used {
-        if index <= entries[at].index {
+    for (at, e) in entries.iter().enumerate() {
+        if index <= e.index {
             return at;
         }
-        at = at + 1;
     }
-    at
+    entries.len()
 }
 
-pub fn find(entries: [OverflowLight; 56], used: usize, index: u32) -> Found
-    requires { used ≤ 56 }
-    ensures { result ≡ find_entry (take used entries) index }
+// Ok of where the entry of an index stands, or Err of where it would stand.
+pub fn find(entries: &[OverflowLight], index: u32) -> Result<usize, usize>
+    ensures { result ≡ find_entry entries.now index }
 {
-    let at = lower_bound(entries, used, index);
-    if at < used {
-        return Found {
-            stored: entries[at].index == index,
-            at,
-        };
+    let at = lower_bound(entries, index);
+    if at < entries.len() && entries[at].index == index {
+        return Ok(at);
     }
-    Found { stored: false, at }
+    Err(at)
 }
 
-// The entries with one more put in before the one at `at`; the last, which is unused, is dropped.
-pub fn inserted_at(entries: [OverflowLight; 56], at: usize, e: OverflowLight) -> [OverflowLight; 56]
+// One entry more, put in before the one at `at`; the last, which is unused, is dropped.
+pub fn insert_at(entries: &mut [OverflowLight; 56], at: usize, e: OverflowLight)
     requires { at < 56 }
-    ensures { result ≡ inserted_at at e entries }
+    ensures { entries.new ≡ inserted_at at e entries.old }
 {
-    let mut out = entries;
-    let mut k = 55usize;
-    while at < k {
-        out[k] = entries[k - 1];
-        k = k - 1;
-    }
-    out[at] = e;
-    out
+    entries.copy_within(at..55, at + 1);
+    entries[at] = e;
 }

@@ -1,5 +1,4 @@
 -- The steps of `inverse` make what the definitions say: the determinant from the kept minors, the columns with their signs, and each answer from the tests that led to it.
--- Assumes nothing.
 use mathlib.Core.Path.{◌≡◌, refl, ap₂, ◌∙◌}
 use mathlib.Core.Bool.{true, false}
 use lib.Ieee.{Float, nan, inf, fin, binary32, div, neg, eq}
@@ -8,7 +7,8 @@ use Rattle.d3d9_types.specs.Numbers.{zero, one}
 use Rattle.d3d9_types.specs.declared.matrix.Row.{Row}
 use Rattle.d3d9_types.specs.declared.matrix.D3DMATRIX.{D3DMATRIX}
 use Rattle.matrix.specs.declared.inversion.Minors.{Minors}
-use Rattle.matrix.specs.declared.answer.Inverse.TheVariants.{Matrix, Singular}
+use Rattle.std.specs.Prelude.{Some, None}
+use Rattle.std.specs.Float.{float_is_finite}
 use Rattle.matrix.specs.Entry.{column, row, matrix_of}
 use Rattle.matrix.specs.Sum.{times}
 use Rattle.matrix.specs.Transposition.{transposed}
@@ -22,6 +22,13 @@ neg_neg (inf true) = refl
 neg_neg (inf false) = refl
 neg_neg (fin true m e) = refl
 neg_neg (fin false m e) = refl
+
+-- the library's word for a number that is neither infinite nor a NaN
+pub finite_is : (x : Float) → float_is_finite x ≡ finite x
+unfolding float_is_finite
+finite_is nan = refl
+finite_is (inf s) = refl
+finite_is (fin s m e) = refl
 
 -- the minors of the upper and of the lower two rows
 abbrev pub upper : D3DMATRIX → Minors
@@ -68,15 +75,15 @@ columns_made m d us lc p q e0 e1 e2 e3 e =
     rw (e, e0, e1, e2, e3, us, lc, p, q, odd_column m.r0 (lower m) d, odd_column m.r2 (upper m) d) (joined_is m d)
 
 module _ (m : D3DMATRIX) (d : Float) (e : d ≡ determinant m) where
-  pub refused-zero : eq d zero ≡ true → Singular ≡ inverse m
+  pub refused-zero : eq d zero ≡ true → None ≡ inverse m
   unfolding inverse singular
   refused-zero z = rw (← e, z)
 
-  pub refused_infinite : eq d zero ≡ false → finite d ≡ false → Singular ≡ inverse m
+  pub refused_infinite : eq d zero ≡ false → finite d ≡ false → None ≡ inverse m
   unfolding inverse singular
   refused_infinite z f = rw (← e, z, f)
 
   pub accepted : eq d zero ≡ false → finite d ≡ true → (x : D3DMATRIX) → x ≡ matrix_of (λ i j. times (cofactor m i j) (div binary32 one d))
-      → Matrix x ≡ inverse m
+      → Some x ≡ inverse m
   unfolding inverse singular
   accepted z f x q = rw (← e, z, f, q)

@@ -1,14 +1,19 @@
 -- The entries of a matrix that is made of given entries, and so of a product and of a transpose.
--- Assumes nothing.
 use Prim.Native.Nat.{ℕ, zero, suc, ◌<◌}
 use native.Mathlib.Omega.{arith}
 use mathlib.Core.Path.{◌≡◌, refl, ap, ◌∙◌}
-use lib.Ieee.{Float}
+use lib.Ieee.{Float, binary32, neg, of_bits}
 use Rattle.d3d9_types.specs.declared.matrix.Row.{Row}
 use Rattle.d3d9_types.specs.declared.matrix.D3DMATRIX.{D3DMATRIX}
 use Rattle.matrix.specs.Entry.{column, row, entry, row_of, matrix_of}
+use Rattle.matrix.specs.Sum.{neg_zero}
 use Rattle.matrix.specs.Product.{dot, times_row, mat_mul}
 use Rattle.matrix.specs.Transposition.{transposed}
+
+-- the literal −0.0
+pub minus_zero : neg (of_bits binary32 0) ≡ neg_zero
+unfolding neg of_bits
+minus_zero = refl
 
 pub column_row_of : (f : ℕ → Float) (j : ℕ) → j < 4 → column (row_of f) j ≡ f j
 unfolding column

@@ -1,5 +1,4 @@
 -- Worked examples, computed. They hold the definitions to document 01 and to plain arithmetic, so that bending code and definition alike does not go unseen.
--- Assumes nothing.
 use Prim.Native.Nat.{ℕ, ◌^◌}
 use mathlib.Core.Path.{◌≡◌, refl}
 use mathlib.Core.Bool.{false}
@@ -11,7 +10,7 @@ use Rattle.d3d9_types.specs.Matrix.{identity}
 use Rattle.d3d9_types.specs.declared.matrix.Row.{Row}
 use Rattle.d3d9_types.specs.declared.matrix.D3DMATRIX.{D3DMATRIX}
 use Rattle.d3d9_types.specs.declared.vector.D3DVECTOR.{D3DVECTOR}
-use Rattle.matrix.specs.declared.answer.Inverse.TheVariants.{Matrix}
+use Rattle.std.specs.Prelude.{Some}
 use Rattle.matrix.specs.Entry.{column, row, matrix_of, vector_of}
 use Rattle.matrix.specs.Sum.{sum_from, sum}
 use Rattle.matrix.specs.Product.{dot, mat_mul}
@@ -97,7 +96,7 @@ product_of_two = refl
 
 -- ---- inverses
 
-whole_inverted : inverse whole ≡ Matrix whole_inverse
+whole_inverted : inverse whole ≡ Some whole_inverse
 unfolding inverse singular determinant cofactor minor det2 sum3 signed other fellow other_pair column row add mul sub div neg eq of_int
 whole_inverted = refl
 
@@ -105,7 +104,7 @@ inverse_is_inverse : mat_mul whole whole_inverse ≡ identity
 unfolding mat_mul dot identity column row sum_from add mul neg of_int
 inverse_is_inverse = refl
 
-halves : inverse (diagonal (p 2)) ≡ Matrix (diagonal (fin false 1 (negsuc 0)))
+halves : inverse (diagonal (p 2)) ≡ Some (diagonal (fin false 1 (negsuc 0)))
 unfolding inverse singular determinant cofactor minor det2 sum3 signed other fellow other_pair column row add mul sub div neg eq of_int
 halves = refl
 

@@ -1,5 +1,4 @@
 -- Every result is a matrix or a vector of f32 values: the last step of each entry rounds, and a transpose only moves entries.
--- Assumes nothing.
 use Prim.Native.Nat.{ℕ, zero, suc}
 use mathlib.Core.Bool.{Bool, true, false, cond}
 use mathlib.Core.List.{List, [], ◌∷◌}
@@ -12,7 +11,7 @@ use Rattle.d3d9_types.specs.Vector.{vectorFits}
 use Rattle.d3d9_types.specs.declared.matrix.Row.{Row}
 use Rattle.d3d9_types.specs.declared.matrix.D3DMATRIX.{D3DMATRIX}
 use Rattle.d3d9_types.specs.declared.vector.D3DVECTOR.{D3DVECTOR}
-use Rattle.matrix.specs.declared.answer.Inverse.TheVariants.{Matrix, Singular}
+use Rattle.std.specs.Prelude.{Some, None}
 use Rattle.matrix.specs.Entry.{column, row, entry, row_of, matrix_of}
 use Rattle.matrix.specs.Sum.{plus, times, neg_zero, sum_from, sum}
 use Rattle.matrix.specs.Product.{dot, mat_mul}
@@ -59,7 +58,7 @@ unfolding transposed
 transposed_fits {m} h = matrix_of_fits (λ i j. entry m j i) (λ i j. column_fits (row_fits h j) i)
 
 -- whatever the test of the determinant says
-either_fits : (t : Bool) (m : D3DMATRIX) → matrixFits m → matrixFits (inverse_matrix (cond t Singular (Matrix m)))
+either_fits : (t : Bool) (m : D3DMATRIX) → matrixFits m → matrixFits (inverse_matrix (cond t None (Some m)))
 unfolding inverse_matrix
 either_fits true m h = identity_fits
 either_fits false m h = h

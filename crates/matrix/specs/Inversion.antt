@@ -1,5 +1,5 @@
 -- The inverse by cofactors, or that there is none (ff_state.rs 1168–1221), in the Rust's order of operations. Document 01, 'The arithmetic underneath'.
-use Rattle.std.specs.Prelude.{ℕ, ◌+◌, ◌-◌, ◌*◌, ◌%◌, Bool, cond, not, ◌||◌, ltb, eqb, Float}
+use Rattle.std.specs.Prelude.{ℕ, ◌+◌, ◌-◌, ◌*◌, ◌%◌, Bool, cond, not, ◌||◌, ltb, eqb, Float, Option, Some, None}
 use Rattle.std.specs.Float.{binary32}
 use Rattle.std.specs.Float.Ieee.{sub, div, neg, eq}
 use Rattle.std.specs.Float.Ieee.Scale.{finite}
@@ -8,8 +8,6 @@ use Rattle.d3d9_types.specs.Numbers.{zero, one}
 use Rattle.d3d9_types.specs.declared.matrix.D3DMATRIX.{D3DMATRIX}
 use Rattle.matrix.specs.Entry.{entry, matrix_of}
 use Rattle.matrix.specs.Sum.{plus, times}
-use Rattle.matrix.specs.declared.answer.Inverse.{Inverse}
-use Rattle.matrix.specs.declared.answer.Inverse.TheVariants.{Matrix, Singular}
 
 -- a × d − b × c
 unfoldable pub det2 : Float → Float → Float → Float → Float
@@ -58,16 +56,16 @@ cofactor m i j =
 unfoldable pub singular : Float → Bool
 singular det = eq det zero || not (finite det)
 
-unfoldable pub inverse : D3DMATRIX → Inverse
+unfoldable pub inverse : D3DMATRIX → Option D3DMATRIX
 inverse m =
-    cond (singular (determinant m)) Singular
-    (Matrix (matrix_of (λ i j. times (cofactor m i j) (div binary32 one (determinant m)))))
+    cond (singular (determinant m)) None
+    (Some (matrix_of (λ i j. times (cofactor m i j) (div binary32 one (determinant m)))))
 
 -- Document 01's number for each answer, and its value: the identity beside the refusal ('Rust forms to recast').
-unfoldable pub inverse_number : Inverse → ℕ
-inverse_number (Matrix m) = 0
-inverse_number Singular = 6
+unfoldable pub inverse_number : Option D3DMATRIX → ℕ
+inverse_number (Some m) = 0
+inverse_number None = 6
 
-unfoldable pub inverse_matrix : Inverse → D3DMATRIX
-inverse_matrix (Matrix m) = m
-inverse_matrix Singular = identity
+unfoldable pub inverse_matrix : Option D3DMATRIX → D3DMATRIX
+inverse_matrix (Some m) = m
+inverse_matrix None = identity

@@ -1,10 +1,8 @@
 // The inverse by cofactors, over the 2 x 2 minors of the upper two and of the lower two rows.
 ghost use Rattle.std.specs.Prelude.{◌≡◌};
-ghost use Rattle.std.specs.Float.Ieee.Scale as Scale;
 ghost use Rattle.matrix.specs.Cofactors.{minors_of, determinant_of, negated_row, column_of};
 ghost use Rattle.matrix.specs.Inversion as Inversion;
 
-use crate::answer::Inverse;
 use crate::transposition::transpose;
 use d3d9_types::{D3DMATRIX, Row};
 
@@ -19,18 +17,21 @@ struct Minors {
     zw: f32,
 }
 
+#[tactic(auto, unfolding(crate::specs::Inversion::det2))]
 fn det2(a: f32, b: f32, c: f32, d: f32) -> f32
     ensures { result ≡ Inversion.det2 a b c d }
 {
     a * d - b * c
 }
 
+#[tactic(auto, unfolding(crate::specs::Inversion::sum3))]
 fn sum3(a0: f32, x0: f32, a1: f32, x1: f32, a2: f32, x2: f32) -> f32
     ensures { result ≡ Inversion.sum3 a0 x0 a1 x1 a2 x2 }
 {
     a0 * x0 + a1 * x1 + a2 * x2
 }
 
+#[tactic(auto, unfolding(crate::specs::Cofactors::minors_of))]
 fn minors_of(a: Row, b: Row) -> Minors
     ensures { result ≡ minors_of a b }
 {
@@ -44,6 +45,7 @@ fn minors_of(a: Row, b: Row) -> Minors
     }
 }
 
+#[tactic(auto, unfolding(crate::specs::Cofactors::determinant_of))]
 fn determinant(s: Minors, c: Minors) -> f32
     ensures { result ≡ determinant_of s c }
 {
@@ -51,6 +53,7 @@ fn determinant(s: Minors, c: Minors) -> f32
 }
 
 // A column of the inverse: a row against the minors of the other pair of rows.
+#[tactic(auto, unfolding(crate::specs::Cofactors::column_of))]
 fn column(a: Row, n: Minors, inv_det: f32) -> Row
     ensures { result ≡ column_of a n inv_det }
 {
@@ -62,6 +65,7 @@ fn column(a: Row, n: Minors, inv_det: f32) -> Row
     }
 }
 
+#[tactic(auto, unfolding(crate::specs::Cofactors::negated_row))]
 fn negated(a: Row) -> Row
     ensures { result ≡ negated_row a }
 {
@@ -73,34 +77,20 @@ fn negated(a: Row) -> Row
     }
 }
 
-fn is_finite(x: f32) -> bool
-    ensures { result ≡ Scale.finite x }
-{
-    let infinity: f32 = 1.0 / 0.0;
-    if x < infinity {
-        return -infinity < x;
-    }
-    false
-}
-
-pub fn inverse(m: D3DMATRIX) -> Inverse
+pub fn inverse(m: D3DMATRIX) -> Option<D3DMATRIX>
     ensures { result ≡ Inversion.inverse m }
 {
     let s = minors_of(m.r0, m.r1);
     let c = minors_of(m.r2, m.r3);
     let det = determinant(s, c);
-    if det == 0.0 {
-        return Inverse::Singular;
+    if det == 0.0 || !det.is_finite() {
+        return None;
     }
-    if is_finite(det) {
-        let inv_det = 1.0 / det;
-        let columns = D3DMATRIX {
-            r0: column(m.r1, c, inv_det),
-            r1: column(negated(m.r0), c, inv_det),
-            r2: column(m.r3, s, inv_det),
-            r3: column(negated(m.r2), s, inv_det),
-        };
-        return Inverse::Matrix(transpose(columns));
-    }
-    Inverse::Singular
+    let inv_det = 1.0 / det;
+    Some(transpose(D3DMATRIX {
+        r0: column(m.r1, c, inv_det),
+        r1: column(negated(m.r0), c, inv_det),
+        r2: column(m.r3, s, inv_det),
+        r3: column(negated(m.r2), s, inv_det),
+    }))
 }

@@ -2,13 +2,11 @@
 // No step is fused and no sum is reordered.
 #![tactic(auto)]
 
-mod answer;
 mod inversion;
 mod product;
 mod transposition;
 mod view;
 
-pub use answer::Inverse;
 pub use inversion::inverse;
 pub use product::{mat_mul, times_row};
 pub use transposition::transpose;

@@ -5,6 +5,7 @@ ghost use Rattle.matrix.specs.Product.{mat_mul, times_row};
 use d3d9_types::{D3DMATRIX, Row};
 
 // The row vector `a` times `m`.
+#[tactic(auto, using(crate::proofs::Entries::minus_zero), unfolding(crate::specs::Product::times_row, crate::specs::Product::dot, crate::specs::Entry::column, crate::specs::Entry::row, crate::specs::Sum::sum_from))]
 pub fn times_row(a: Row, m: D3DMATRIX) -> Row
     ensures { result ≡ times_row a m }
 {
@@ -17,6 +18,7 @@ pub fn times_row(a: Row, m: D3DMATRIX) -> Row
 }
 
 // The product a * b.
+#[tactic(auto, unfolding(crate::specs::Product::mat_mul, crate::specs::Product::times_row, crate::specs::Entry::row))]
 pub fn mat_mul(a: D3DMATRIX, b: D3DMATRIX) -> D3DMATRIX
     ensures { result ≡ mat_mul a b }
 {

@@ -4,6 +4,7 @@ ghost use Rattle.matrix.specs.Transposition.{transposed};
 
 use d3d9_types::{D3DMATRIX, Row};
 
+#[tactic(auto, unfolding(crate::specs::Transposition::transposed, crate::specs::Entry::column, crate::specs::Entry::row))]
 pub fn transpose(m: D3DMATRIX) -> D3DMATRIX
     ensures { result ≡ transposed m }
 {

@@ -5,6 +5,7 @@ ghost use Rattle.matrix.specs.View.{view_transform_point, view_transform_dir};
 use d3d9_types::{D3DMATRIX, D3DVECTOR};
 
 // The translation row is added as it is, as the term of w = 1.
+#[tactic(auto, using(crate::proofs::Entries::minus_zero), unfolding(crate::specs::View::view_transform_point, crate::specs::Entry::column, crate::specs::Entry::row, crate::specs::Sum::sum_from))]
 pub fn view_transform_point(view: D3DMATRIX, p: D3DVECTOR) -> D3DVECTOR
     ensures { result ≡ view_transform_point view p }
 {
@@ -16,6 +17,7 @@ pub fn view_transform_point(view: D3DMATRIX, p: D3DVECTOR) -> D3DVECTOR
 }
 
 // A direction has w = 0: no translation.
+#[tactic(auto, using(crate::proofs::Entries::minus_zero), unfolding(crate::specs::View::view_transform_dir, crate::specs::Entry::column, crate::specs::Entry::row, crate::specs::Sum::sum_from))]
 pub fn view_transform_dir(view: D3DMATRIX, d: D3DVECTOR) -> D3DVECTOR
     ensures { result ≡ view_transform_dir view d }
 {

@@ -1,4 +1,3 @@
-pub mod Width
 pub mod Outcomes
 pub mod Fills
 mod Examples

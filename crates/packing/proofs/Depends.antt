@@ -6,6 +6,7 @@ use mathlib.Core.List.{List, []}
 use lib.Dec.{eqb}
 use lib.Ieee.{Float}
 use lib.ListN.{length, take}
+use Rattle.std.specs.Prelude.{Ok, Err}
 use Rattle.d3d9_types.specs.declared.matrix.Row.{Row}
 use Rattle.d3d9_types.specs.declared.matrix.D3DMATRIX.{D3DMATRIX}
 use Rattle.d3d9_types.specs.declared.light.D3DLIGHT9.{D3DLIGHT9}
@@ -27,11 +28,11 @@ use Rattle.sections.proofs.Shape.{shape_limit}
 use Rattle.sections.specs.declared.key.FfVsKey.{FfVsKey}
 use Rattle.packing.specs.Inputs.{Inputs, packed_rows, mask_accepted, inputs_of}
 use Rattle.packing.specs.Pack.{PackOutcome, pack_outcome, pack_inputs, pack_section, input_rows, state_count}
-use Rattle.packing.specs.declared.answer.PackAnswer.TheVariants.{Packed, WrongLength, WrongMask}
+use Rattle.packing.specs.declared.answer.PackError.TheVariants.{WrongLength, WrongMask}
 
 -- an outcome by its three parts
 abbrev outcome_of : List Float → ℕ → Bool → List Row → PackOutcome
-outcome_of dst n m rs = cond (eqb (length dst) (4 * n)) (cond m (pack_outcome Packed (floats rs)) (pack_outcome WrongMask dst)) (pack_outcome WrongLength dst)
+outcome_of dst n m rs = cond (eqb (length dst) (4 * n)) (cond m (pack_outcome (Ok tt) (floats rs)) (pack_outcome (Err WrongMask) dst)) (pack_outcome (Err WrongLength) dst)
 
 -- ---- the state
 

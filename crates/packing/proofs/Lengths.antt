@@ -43,11 +43,11 @@ pub places-none : places 0 ≡ 0
 unfolding places
 places-none = ap (λ (n : ℕ). 8 - n) (leading_of_zero 8)
 
-pub material-rows : (l sp : Bool) (m : D3DMATERIAL9) → length (material_rows l sp m) ≡ cond l (cond sp 5 4) 1
+pub material_length : (l sp : Bool) (m : D3DMATERIAL9) → length (material_rows l sp m) ≡ cond l (cond sp 5 4) 1
 unfolding material_rows
-material-rows true true m = refl
-material-rows true false m = refl
-material-rows false sp m = refl
+material_length true true m = refl
+material_length true false m = refl
+material_length false sp m = refl
 
 -- what the key and the inputs have to be: u8 numbers, 256 world matrices, 8 texture matrices
 pub record SizedInputs (k : FfVsKey) (i : Inputs) : Type 0 where
@@ -74,7 +74,7 @@ module _ (k : FfVsKey) (i : Inputs) (z : SizedInputs k i) where
   unfolding packed_rows mask_accepted world_view_rows projection_rows material_count palette_rows palette_count texture_rows texture_count
   rows-length Wv m = refl
   rows-length Proj m = refl
-  rows-length Material m = material-rows k.lighting_enabled k.specular_enable i.material
+  rows-length Material m = material_length k.lighting_enabled k.specular_enable i.material
   rows-length Lights m = lights-rows (eqb k.light_active_mask 0) refl m
   rows-length Palette m =
       length_rows_of (world_view_rows i.view) 4 (λ w. refl) (take (palette_matrices k) i.palette)

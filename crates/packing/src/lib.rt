@@ -6,7 +6,7 @@ mod fill;
 mod lights;
 mod pack;
 
-pub use answer::PackAnswer;
+pub use answer::PackError;
 pub use fill::{
     fill_ambient_section, fill_fog_section, fill_material_section, fill_palette_section,
     fill_proj_section, fill_tt_section, fill_wv_section,

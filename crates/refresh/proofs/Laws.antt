@@ -1,11 +1,12 @@
 -- What an accepted refresh leaves: each section that was dirty holds its packing, all else in the mirror stands, no bit is dirty, and the state packs as before. A refused one changes nothing.
 -- Assumes nothing.
 use Prim.Native.Nat.{ℕ, ◌*◌, ◌<◌}
-use mathlib.Core.Path.{◌≡◌, sym, ap, subst, ◌∙◌}
+use mathlib.Core.Path.{◌≡◌, refl, sym, ap, subst, ◌∙◌}
 use mathlib.Core.Bool.{true, false}
 use mathlib.Core.List.{List}
 use lib.Ieee.{Float, nan}
 use lib.ListN.{length, get_or}
+use Rattle.std.specs.Prelude.{Result, Ok, Err}
 use Rattle.codec.proofs.Put.{Outside}
 use Rattle.ff_state.specs.State.{dirty_word}
 use Rattle.ff_state.specs.Dirty.{take_ff_vs_dirty}
@@ -19,19 +20,21 @@ use Rattle.packing.specs.Pack.{state_rows, state_count}
 use Rattle.refresh.specs.Answer.{refresh_answer}
 use Rattle.refresh.specs.Mirror.{RefreshOutcome, refreshed, refusal, acceptance, refresh_by, refresh_mirror}
 use Rattle.refresh.specs.Written.{first_float, written}
-use Rattle.refresh.specs.declared.answer.RefreshAnswer.{RefreshAnswer}
-use Rattle.refresh.specs.declared.answer.RefreshAnswer.TheVariants.{Accepted}
+use Rattle.refresh.specs.declared.answer.RefreshError.{RefreshError}
 use Rattle.refresh.proofs.Answers.{accepted_fits}
 use Rattle.refresh.proofs.Packed.{Ready}
 use Rattle.refresh.proofs.Parts.{Holds}
-use Rattle.refresh.proofs.Writes.{refused}
 use Rattle.refresh.proofs.Holding.{every_in, written-length, written_outside, written_off, written_on}
 
 -- "Bits stay untaken", and "bits beside one are 0": state and mirror are as found
-module _ (s : FfState) (k : FfVsKey) (m : List Float) (f : refresh_answer s k (length m) ≡ Accepted → ⊥) where
+module _ (s : FfState) (k : FfVsKey) (m : List Float) (f : refresh_answer s k (length m) ≡ Ok tt → ⊥) where
   pub refused_same : refresh_mirror s k m ≡ refreshed (refusal (refresh_answer s k (length m)) s) m
-  unfolding refresh_mirror
-  refused_same = sym (refused s k (refresh_answer s k (length m)) f m)
+  unfolding refresh_mirror refresh_by
+  refused_same = go (refresh_answer s k (length m)) f
+    where
+      go : (a : Result Unit RefreshError) → (a ≡ Ok tt → ⊥) → refresh_by a s k m ≡ refreshed (refusal a s) m
+      go (Ok u) n = absurd (n refl)
+      go (Err e) n = refl
 
   pub refused_bits : (refresh_mirror s k m).result.bits ≡ 0
   refused_bits = ap (λ (o : RefreshOutcome). o.result.bits) refused_same
@@ -44,7 +47,7 @@ module _ (s : FfState) (k : FfVsKey) (m : List Float) (f : refresh_answer s k (l
 
 -- of a count that is a u8, 256 world matrices and 8 of textures
 module _ (s : FfState) (k : FfVsKey) (m : List Float) (byte : k.vertex_blend_count < 256) (palette : length s.world_palette ≡ 256)
-    (textures : length s.texture_transforms ≡ 8) (is : refresh_answer s k (length m) ≡ Accepted) where
+    (textures : length s.texture_transforms ≡ 8) (is : refresh_answer s k (length m) ≡ Ok tt) where
   ready : Ready s k
   ready = record { count = byte; palette = palette; textures = textures; mask = (accepted_fits s k (length m) is).mask }
 
@@ -54,7 +57,7 @@ module _ (s : FfState) (k : FfVsKey) (m : List Float) (byte : k.vertex_blend_cou
   -- the outcome
   pub accepted_is : refresh_mirror s k m ≡ refreshed (acceptance (take_ff_vs_dirty s)) (written sections (dirty_word s) s k m)
   unfolding refresh_mirror refresh_by take_ff_vs_dirty
-  accepted_is = ap (λ (a : RefreshAnswer). refresh_by a s k m) is
+  accepted_is = ap (λ (a : Result Unit RefreshError). refresh_by a s k m) is
 
   mirror_is : (refresh_mirror s k m).floats ≡ written sections (dirty_word s) s k m
   mirror_is = ap (λ (o : RefreshOutcome). o.floats) accepted_is

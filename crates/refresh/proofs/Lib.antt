@@ -1,6 +1,5 @@
 pub mod Answers
 pub mod Parts
 pub mod Packed
-pub mod Writes
 pub mod Holding
 pub mod Laws

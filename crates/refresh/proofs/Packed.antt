@@ -8,6 +8,7 @@ use mathlib.Core.List.{List}
 use lib.Ieee.{Float}
 use lib.ListN.{length}
 use borrow.Author.Tests.{eq-eqb}
+use Rattle.std.specs.Prelude.{Result}
 use Rattle.sections.specs.declared.sections.Section.{Section}
 use Rattle.sections.specs.declared.sections.Section.TheVariants.{Wv, Proj, Material, Lights, Palette, Tt, Fog, Ambient}
 use Rattle.ff_state.specs.declared.state.FfState.{FfState}
@@ -15,7 +16,7 @@ use Rattle.sections.specs.declared.key.FfVsKey.{FfVsKey}
 use Rattle.sections.proofs.Tiles.{fits_mirror}
 use Rattle.packing.specs.Inputs.{mask_accepted, inputs_of}
 use Rattle.packing.specs.Pack.{PackOutcome, pack_outcome, pack_inputs, pack_section, state_rows, state_count}
-use Rattle.packing.specs.declared.answer.PackAnswer.{PackAnswer}
+use Rattle.packing.specs.declared.answer.PackError.{PackError}
 use Rattle.packing.proofs.Lengths.{floats-length}
 use Rattle.refresh.specs.Written.{first_float}
 
@@ -47,6 +48,6 @@ module _ {s : FfState} {k : FfVsKey} (r : Ready s k) (σ : Section) where
   pub fits : first_float σ + length (state_rows σ s k) ≤ 4460
   fits = omega (arith, rows-length, fits_mirror k (inputs_of s).texture_mask r.count σ)
 
-  pub packs : (a : PackAnswer) (xs dst : List Float) → length dst ≡ 4 * state_count σ s k → pack_outcome a xs ≡ pack_section σ s k dst → xs ≡ state_rows σ s k
+  pub packs : (a : Result Unit PackError) (xs dst : List Float) → length dst ≡ 4 * state_count σ s k → pack_outcome a xs ≡ pack_section σ s k dst → xs ≡ state_rows σ s k
   unfolding pack_section pack_inputs
   packs a xs dst long e = ap (λ (o : PackOutcome). o.floats) e ∙ rw (eq-eqb (length dst) (4 * state_count σ s k) long, accepted)

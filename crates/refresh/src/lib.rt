@@ -5,6 +5,6 @@ mod answer;
 mod mirror;
 mod written;
 
-pub use answer::{RefreshAnswer, refresh_answer};
-pub use mirror::{Refreshed, refresh};
+pub use answer::{RefreshError, refresh_answer};
+pub use mirror::refresh;
 pub use written::has_section;

@@ -27,6 +27,7 @@ pub fn write_section(section: Section, bits: u32, s: FfState, key: FfVsKey, mirr
         let rows = section_rows(section, key, s.tt_active_mask);
         let first = 4 * row as usize;
         let end = first + 4 * rows as usize;
-        pack_section(section, s, key, &mut mirror[first..end]);
+        // It fits, and the mask is accepted.
+        let _ = pack_section(section, s, key, &mut mirror[first..end]);
     }
 }

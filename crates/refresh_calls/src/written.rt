@@ -21,6 +21,8 @@ pub fn write_section_bytes(section: Section, bits: u32, s: FfState, key: FfVsKey
         let first = 16 * row as usize;
         let end = first + 4 * n;
         let mut floats = mirror_floats();
-        fill_bytes(section, s, key, &mut floats[..n], &mut mirror[first..end]);
+        let part = &mut mirror[first..end];
+        // It fits, and the mask is accepted.
+        let _ = fill_bytes(section, s, key, &mut floats[..n], part);
     }
 }

@@ -1,15 +1,18 @@
-// What a refresh answers and writes, over the parts of a state, which are handed over by value. Only crates of this
+// What a refresh answers and writes, over a state that is lent: a section takes out only the parts that it is made from. Only crates of this
 // repository call these.
 #![tactic(auto)]
 
+mod answer;
 mod lights;
-mod number;
 mod palette;
 mod small;
 mod textures;
 
-pub use lights::{lights_due, put_lights};
-pub use number::{first_number, mask_number};
-pub use palette::{palette_due, put_palette};
-pub use small::write_small;
-pub use textures::{put_textures, textures_due};
+pub use answer::accepts;
+pub use lights::write_lights_section;
+pub use palette::write_palette_section;
+pub use small::{
+    write_ambient_section, write_fog_section, write_material_section, write_proj_section,
+    write_wv_section,
+};
+pub use textures::write_tt_section;

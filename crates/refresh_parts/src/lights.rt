@@ -1,59 +1,49 @@
-// The lights of a mirror, over the parts that they are made from.
-ghost use Rattle.std.specs.Prelude.{◌≡◌, ◌&&◌, not, eqb, length};
+// The lights of a mirror.
+ghost use Rattle.std.specs.Prelude.{◌≡◌, take};
 ghost use Rattle.codec.specs.Put.{put};
-ghost use Rattle.light_table.specs.Active.{listed};
-ghost use Rattle.sections.specs.Key.{light_limit};
-ghost use Rattle.sections.specs.Sections.{has_section};
-ghost use Rattle.sections.specs.declared.sections.Section.TheVariants.{Lights};
-ghost use Rattle.rows.specs.Rows.{floats};
+ghost use Rattle.ff_state.specs.Active.{active_lights, resolve_active_lights};
 ghost use Rattle.light_rows.specs.Light.{lights_rows};
-ghost use Rattle.refresh_parts.specs.Parts.{active_parts, part_lights};
+ghost use Rattle.rows.specs.Rows.{floats};
+ghost use Rattle.sections.specs.Key.{light_limit};
+ghost use Rattle.sections.specs.declared.sections.Section.TheVariants.{Lights};
+ghost use Rattle.refresh.specs.Written.{written_section};
 
-use d3d9_types::{D3DLIGHT9, D3DMATRIX};
+use ff_state::FfState;
 use light_rows::write_lights;
-use light_table::{ActiveLights, OverflowLight, active_lights};
+use light_table::{ActiveLights, active_lights};
 use refresh::has_section;
-use sections::{FfVsKey, Section, light_limit};
+use sections::{FfVsKey, MIRROR_FLOATS, Section, light_limit};
 
 // The active lights that are packed under a key, from what they are made from.
-pub fn active_of(
-    key: FfVsKey,
-    lights: [D3DLIGHT9; 8],
-    set: u8,
-    enabled: u8,
-    entries: [OverflowLight; 56],
-    count: u16,
-) -> ActiveLights
-    ensures { result ≡ listed (light_limit key) (active_parts lights set enabled entries count) }
+#[tactic(auto, using(sections::proofs::Shape::limit_small), unfolding(ff_state::specs::Active::resolve_active_lights, ff_state::specs::Active::active_lights, ff_state::specs::Active::light_active_mask))]
+pub fn active_of(s: &FfState, key: FfVsKey) -> ActiveLights
+    ensures { result ≡ resolve_active_lights s.now (light_limit key) }
 {
-    active_lights(lights, set & enabled, entries, count, light_limit(key))
+    active_lights(
+        s.lights,
+        s.light_set_mask & s.light_enabled,
+        s.overflow_lights,
+        s.overflow_count,
+        light_limit(key),
+    )
 }
 
-// Whether there are rows of lights to write.
-pub fn lights_due(bits: u32, key: FfVsKey) -> bool
-    ensures { result ≡ (has_section bits Lights && not (eqb key.light_active_mask 0)) }
+// A function of its own: what a function holds is cleared where it begins, so that a refresh without lights would pay for the list.
+fn put_lights(s: &FfState, key: FfVsKey, mirror: &mut [f32; MIRROR_FLOATS])
+    ensures { mirror.new ≡ put 60 (floats (lights_rows s.now.view (take (light_limit key) (active_lights s.now)))) mirror.old }
 {
-    if has_section(bits, Section::Lights) {
-        return key.light_active_mask != 0;
-    }
-    false
-}
-
-pub fn put_lights(
-    view: D3DMATRIX,
-    key: FfVsKey,
-    lights: [D3DLIGHT9; 8],
-    set: u8,
-    enabled: u8,
-    entries: [OverflowLight; 56],
-    count: u16,
-    mirror: &mut [f32],
-)
-    requires { length mirror.old ≡ 4460 }
-    ensures { mirror.new ≡ put 60 (floats (lights_rows view (part_lights key lights set enabled entries count))) mirror.old }
-{
-    let list = active_of(key, lights, set, enabled, entries, count);
+    let list = active_of(s, key);
     let n = list.len;
-    let active = list.lights;
-    write_lights(&mut mirror[60..60 + 24 * n], view, active, n);
+    let active = &list.lights[..n];
+    write_lights(&mut mirror[60..60 + 24 * n], s.view, active);
+}
+
+// The lights' section, if the bits name it. (Each section has its `if`: see small.rt.) A mask of 0 packs none.
+#[tactic(auto, unfolding(refresh::specs::Written::written_section, packing::specs::Inputs::packed_rows, rows::specs::Rows::floats))]
+pub fn write_lights_section(s: &FfState, bits: u32, key: FfVsKey, mirror: &mut [f32; MIRROR_FLOATS])
+    ensures { mirror.new ≡ written_section Lights bits s.now key mirror.old }
+{
+    if has_section(bits, Section::Lights) && key.light_active_mask != 0 {
+        put_lights(s, key, mirror);
+    }
 }

@@ -1,39 +1,42 @@
-// The small sections of a mirror: WV, PROJ, MATERIAL, FOG and AMBIENT.
-ghost use Rattle.std.specs.Prelude.{◌≡◌, length};
+// The small sections of a mirror: WV, PROJ, MATERIAL, FOG and AMBIENT, each written if the bits name it. A helper that takes the writing as a
+// closure would save each its `if`, and cost it a contract over the closure's predicates.
+ghost use Rattle.std.specs.Prelude.{◌≡◌};
+ghost use Rattle.sections.specs.declared.key.FfVsKey.{FfVsKey};
 ghost use Rattle.sections.specs.declared.sections.Section.TheVariants.{Wv, Proj, Material, Fog, Ambient};
-ghost use Rattle.rows.specs.Ambient.{ambient_rows};
-ghost use Rattle.rows.specs.Fog.{fog_rows};
-ghost use Rattle.rows.specs.Material.{material_rows};
-ghost use Rattle.rows.specs.Matrices.{projection_rows, world_view_rows};
-ghost use Rattle.refresh_parts.specs.Parts.{written_rows, written_small};
+ghost use Rattle.refresh.specs.Written.{written_section};
 
-use d3d9_types::{D3DMATERIAL9, D3DMATRIX, RenderStates};
+use ff_state::FfState;
 use matrix::{mat_mul, transpose};
 use refresh::has_section;
 use rows::{write_ambient, write_fog, write_material, write_matrix};
-use sections::{FfVsKey, Section, material_section_rows};
+use sections::{FfVsKey, MIRROR_FLOATS, Section, material_section_rows};
 
-fn write_wv(bits: u32, view: D3DMATRIX, world: D3DMATRIX, mirror: &mut [f32])
-    requires { length mirror.old ≡ 4460 }
-    ensures { mirror.new ≡ written_rows Wv bits (world_view_rows view world) mirror.old }
+#[tactic(auto, unfolding(refresh::specs::Written::written_section, packing::specs::Inputs::packed_rows))]
+pub fn write_wv_section(s: &FfState, bits: u32, mirror: &mut [f32; MIRROR_FLOATS])
+    ensures { (key : FfVsKey) → mirror.new ≡ written_section Wv bits s.now key mirror.old }
 {
     if has_section(bits, Section::Wv) {
-        write_matrix(mirror, 0, transpose(mat_mul(world, view)));
+        write_matrix(mirror, 0, transpose(mat_mul(s.world_palette[0], s.view)));
     }
 }
 
-fn write_proj(bits: u32, projection: D3DMATRIX, mirror: &mut [f32])
-    requires { length mirror.old ≡ 4460 }
-    ensures { mirror.new ≡ written_rows Proj bits (projection_rows projection) mirror.old }
+#[tactic(auto, unfolding(refresh::specs::Written::written_section, packing::specs::Inputs::packed_rows))]
+pub fn write_proj_section(s: &FfState, bits: u32, mirror: &mut [f32; MIRROR_FLOATS])
+    ensures { (key : FfVsKey) → mirror.new ≡ written_section Proj bits s.now key mirror.old }
 {
     if has_section(bits, Section::Proj) {
-        write_matrix(mirror, 16, transpose(projection));
+        write_matrix(mirror, 16, transpose(s.projection));
     }
 }
 
-fn write_colors(bits: u32, key: FfVsKey, material: D3DMATERIAL9, mirror: &mut [f32])
-    requires { length mirror.old ≡ 4460 }
-    ensures { mirror.new ≡ written_rows Material bits (material_rows key.lighting_enabled key.specular_enable material) mirror.old }
+#[tactic(auto, unfolding(refresh::specs::Written::written_section, packing::specs::Inputs::packed_rows))]
+pub fn write_material_section(
+    s: &FfState,
+    bits: u32,
+    key: FfVsKey,
+    mirror: &mut [f32; MIRROR_FLOATS],
+)
+    ensures { mirror.new ≡ written_section Material bits s.now key mirror.old }
 {
     if has_section(bits, Section::Material) {
         let n = 4 * material_section_rows(key) as usize;
@@ -41,16 +44,17 @@ fn write_colors(bits: u32, key: FfVsKey, material: D3DMATERIAL9, mirror: &mut [f
             &mut mirror[40..40 + n],
             key.lighting_enabled,
             key.specular_enable,
-            material,
+            s.material,
         );
     }
 }
 
-fn write_fog_row(bits: u32, key: FfVsKey, states: RenderStates, mirror: &mut [f32])
-    requires { length mirror.old ≡ 4460 }
-    ensures { mirror.new ≡ written_rows Fog bits (fog_rows key.fog_mode states.fog_start states.fog_end states.fog_density) mirror.old }
+#[tactic(auto, unfolding(refresh::specs::Written::written_section, packing::specs::Inputs::packed_rows))]
+pub fn write_fog_section(s: &FfState, bits: u32, key: FfVsKey, mirror: &mut [f32; MIRROR_FLOATS])
+    ensures { mirror.new ≡ written_section Fog bits s.now key mirror.old }
 {
     if has_section(bits, Section::Fog) {
+        let states = s.render_states;
         write_fog(
             &mut mirror[32..36],
             key.fog_mode,
@@ -61,32 +65,11 @@ fn write_fog_row(bits: u32, key: FfVsKey, states: RenderStates, mirror: &mut [f3
     }
 }
 
-fn write_ambient_row(bits: u32, states: RenderStates, mirror: &mut [f32])
-    requires { length mirror.old ≡ 4460 }
-    ensures { mirror.new ≡ written_rows Ambient bits (ambient_rows states.ambient) mirror.old }
+#[tactic(auto, unfolding(refresh::specs::Written::written_section, packing::specs::Inputs::packed_rows))]
+pub fn write_ambient_section(s: &FfState, bits: u32, mirror: &mut [f32; MIRROR_FLOATS])
+    ensures { (key : FfVsKey) → mirror.new ≡ written_section Ambient bits s.now key mirror.old }
 {
     if has_section(bits, Section::Ambient) {
-        write_ambient(&mut mirror[36..40], states.ambient);
+        write_ambient(&mut mirror[36..40], s.render_states.ambient);
     }
-}
-
-// Each of the five that the bits name.
-pub fn write_small(
-    bits: u32,
-    key: FfVsKey,
-    view: D3DMATRIX,
-    world: D3DMATRIX,
-    projection: D3DMATRIX,
-    material: D3DMATERIAL9,
-    states: RenderStates,
-    mirror: &mut [f32],
-)
-    requires { length mirror.old ≡ 4460 }
-    ensures { mirror.new ≡ written_small bits key view world projection material states mirror.old }
-{
-    write_wv(bits, view, world, mirror);
-    write_proj(bits, projection, mirror);
-    write_colors(bits, key, material, mirror);
-    write_fog_row(bits, key, states, mirror);
-    write_ambient_row(bits, states, mirror);
 }

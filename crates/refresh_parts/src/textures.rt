@@ -1,27 +1,22 @@
-// The texture matrices of a mirror, over the parts that they are made from.
-ghost use Rattle.std.specs.Prelude.{◌≡◌, length};
-ghost use Rattle.codec.specs.Put.{put};
-ghost use Rattle.sections.specs.Sections.{has_section};
+// The texture matrices of a mirror.
+ghost use Rattle.std.specs.Prelude.{◌≡◌};
+ghost use Rattle.sections.specs.declared.key.FfVsKey.{FfVsKey};
 ghost use Rattle.sections.specs.declared.sections.Section.TheVariants.{Tt};
-ghost use Rattle.rows.specs.Rows.{floats};
-ghost use Rattle.rows.specs.Matrices.{texture_rows};
+ghost use Rattle.refresh.specs.Written.{written_section};
 
-use d3d9_types::D3DMATRIX;
+use ff_state::FfState;
 use refresh::has_section;
 use rows::write_textures;
-use sections::{Section, places};
+use sections::{MIRROR_FLOATS, Section, places};
 
-// Whether the texture matrices are to be written.
-pub fn textures_due(bits: u32) -> bool
-    ensures { result ≡ has_section bits Tt }
+// The texture matrices' section, if the bits name it. (Each section has its `if`: see small.rt.) No key has a part in it.
+#[tactic(auto, unfolding(refresh::specs::Written::written_section, packing::specs::Inputs::packed_rows))]
+pub fn write_tt_section(s: &FfState, bits: u32, mirror: &mut [f32; MIRROR_FLOATS])
+    ensures { (key : FfVsKey) → mirror.new ≡ written_section Tt bits s.now key mirror.old }
 {
-    has_section(bits, Section::Tt)
-}
-
-pub fn put_textures(textures: [D3DMATRIX; 8], mask: u8, mirror: &mut [f32])
-    requires { length mirror.old ≡ 4460 }
-    ensures { mirror.new ≡ put 252 (floats (texture_rows mask textures)) mirror.old }
-{
-    let n = places(mask) as usize;
-    write_textures(&mut mirror[252..252 + 16 * n], textures, mask);
+    if has_section(bits, Section::Tt) {
+        let mask = s.tt_active_mask;
+        let n = places(mask) as usize;
+        write_textures(&mut mirror[252..252 + 16 * n], s.texture_transforms, mask);
+    }
 }

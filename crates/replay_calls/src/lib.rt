@@ -1,7 +1,6 @@
-// The calls of a list on the running image, item, key and mirror.
+// The calls of a list on the running things, a letter for each.
 #![tactic(auto)]
 
 mod call;
-mod packs;
 
 pub use call::image_call;

@@ -1,37 +1,29 @@
 // What a reader gives, line by line, to a writer.
-use crate::line::answer_line;
-use image_reasons::IMAGE_LENGTH;
-use replay_input::{next_line, start};
-use replay_text::write_last;
-use std::io::{Read, Result, Write};
+use crate::line::answer;
+use replay_images::Machine;
+use replay_input::next_line;
+use replay_text::{Unanswered, answer_line};
+use std::alloc::Global;
+use std::io::{BufReader, BufWriter, Read, Result, Write};
 
-// The turns are counted, as in next_line.
-pub fn replay<R: Read, W: Write>(from: &mut R, to: &mut W) -> Result<()> {
-    let mut block = [0u8; 4096];
-    let mut line = [0u8; 1024];
-    let mut out = [0u8; 65_536];
-    let mut image = [0u8; IMAGE_LENGTH];
-    let mut item = [0u8; 128];
-    let mut key = [0u8; 8];
-    let mut mirror = [0u8; 17_840];
-    let mut held = 0usize;
-    let mut input = next_line(from, &mut block, &mut line, start())?;
+// A loop has to end, and nothing says that the input does: so the turns are counted, up to a number
+// that no run reaches.
+pub fn replay<R: Read + Drop, W: Write + Drop>(alloc: Global, from: R, to: W) -> Result<()> {
+    let mut from = BufReader::new(alloc, from)?;
+    let mut to = BufWriter::with_capacity(alloc, 65_536, to)?;
+    let mut machine = Machine::new();
+    let mut line = Vec::new(alloc);
     for _ in 0..u64::MAX {
-        if !input.whole {
+        if !next_line(&mut from, &mut line)? {
             break;
         }
-        held = answer_line(
-            to,
-            &line,
-            input.line,
-            &mut out,
-            held,
-            &mut image,
-            &mut item,
-            &mut key,
-            &mut mirror,
-        )?;
-        input = next_line(from, &mut block, &mut line, input)?;
+        let text = answer_line(alloc, answer(line.as_slice(), &mut machine))?;
+        to.write_all(text.as_bytes())?;
     }
-    write_last(to, &mut out, held, input.line)
+    // A last line with no newline is no call.
+    if !line.is_empty() {
+        let text = answer_line(alloc, Err(Unanswered::BadLine))?;
+        to.write_all(text.as_bytes())?;
+    }
+    to.flush()
 }

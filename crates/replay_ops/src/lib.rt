@@ -1,81 +1,54 @@
-// Arithmetic, a letter for each call. The words of a call come in one array, and those of its answer
-// go to another.
+// Arithmetic, a letter for each call: it is the format's.
 #![tactic(auto)]
 
-ghost use Rattle.std.specs.Prelude.{◌+◌, ◌≤◌};
-ghost use Rattle.replay_text.specs.Answer.{Within};
+ghost use Rattle.std.specs.Prelude.{◌+◌, ◌≤◌, length};
 
 use d3d9_types::{D3DMATRIX, Row};
-use matrix::Inverse;
-use replay_text::Answer;
+use replay_text::{Unanswered, Words};
 
-// How many words a call takes. No other letter is a call.
-fn arity(letter: u8) -> usize {
+// Makes the call `letter` on the words. No other letter is a call, nor other counts of words.
+pub fn call(letter: u8, words: &[u32]) -> Result<Words, Unanswered> {
     match letter {
-        b's' | b'c' => 1,
-        b'm' => 32,
-        b't' | b'i' => 16,
-        _ => 0,
+        b's' => Ok(sqrt(exactly(words)?)),
+        b'c' => Ok(cos(exactly(words)?)),
+        b'm' => Ok(mat_mul(exactly(words)?)),
+        b't' => Ok(transpose(exactly(words)?)),
+        b'i' => inverse(exactly(words)?),
+        _ => Err(Unanswered::BadLine),
     }
 }
 
-// Makes the call `letter` on n words.
-pub fn call(letter: u8, n: usize, words: &[u32; 32], out: &mut [u32; 16]) -> Answer
-    ensures { Within result }
-{
-    if n != arity(letter) {
-        return Answer::Bad;
-    }
-    match letter {
-        b's' => sqrt(words, out),
-        b'c' => cos(words, out),
-        b'm' => mat_mul(words, out),
-        b't' => transpose(words, out),
-        b'i' => inverse(words, out),
-        _ => Answer::Bad,
-    }
+fn exactly<const N: usize>(words: &[u32]) -> Result<&[u32; N], Unanswered> {
+    words.as_array().ok_or(Unanswered::BadLine)
 }
 
-fn sqrt(words: &[u32; 32], out: &mut [u32; 16]) -> Answer
-    ensures { Within result }
-{
-    out[0] = float32::bits_of(float32::sqrt(float32::of_bits(words[0])));
-    Answer::Words(1)
+fn sqrt(words: &[u32; 1]) -> Words {
+    let root = float32::sqrt(float32::of_bits(words[0]));
+    Words::Scalar([float32::bits_of(root)])
 }
 
-fn cos(words: &[u32; 32], out: &mut [u32; 16]) -> Answer
-    ensures { Within result }
-{
-    out[0] = float32::bits_of(float32::cos(float32::of_bits(words[0])));
-    Answer::Words(1)
+fn cos(words: &[u32; 1]) -> Words {
+    let cosine = float32::cos(float32::of_bits(words[0]));
+    Words::Scalar([float32::bits_of(cosine)])
 }
 
-fn mat_mul(words: &[u32; 32], out: &mut [u32; 16]) -> Answer
-    ensures { Within result }
-{
-    put_matrix(
-        out,
-        matrix::mat_mul(matrix_at(words, 0), matrix_at(words, 16)),
-    )
+fn mat_mul(words: &[u32; 32]) -> Words {
+    words_of(matrix::mat_mul(matrix_at(words, 0), matrix_at(words, 16)))
 }
 
-fn transpose(words: &[u32; 32], out: &mut [u32; 16]) -> Answer
-    ensures { Within result }
-{
-    put_matrix(out, matrix::transpose(matrix_at(words, 0)))
+fn transpose(words: &[u32; 16]) -> Words {
+    words_of(matrix::transpose(matrix_at(words, 0)))
 }
 
-fn inverse(words: &[u32; 32], out: &mut [u32; 16]) -> Answer
-    ensures { Within result }
-{
-    let Inverse::Matrix(m) = matrix::inverse(matrix_at(words, 0)) else {
-        return Answer::Refused(6);
+fn inverse(words: &[u32; 16]) -> Result<Words, Unanswered> {
+    let Some(m) = matrix::inverse(matrix_at(words, 0)) else {
+        return Err(Unanswered::Refused(6));
     };
-    put_matrix(out, m)
+    Ok(words_of(m))
 }
 
-fn row_at(words: &[u32; 32], at: usize) -> Row
-    requires { at + 4 ≤ 32 }
+fn row_at(words: &[u32], at: usize) -> Row
+    requires { at + 4 ≤ length words.now }
 {
     Row {
         x: float32::of_bits(words[at]),
@@ -85,8 +58,8 @@ fn row_at(words: &[u32; 32], at: usize) -> Row
     }
 }
 
-fn matrix_at(words: &[u32; 32], at: usize) -> D3DMATRIX
-    requires { at + 16 ≤ 32 }
+fn matrix_at(words: &[u32], at: usize) -> D3DMATRIX
+    requires { at + 16 ≤ length words.now }
 {
     D3DMATRIX {
         r0: row_at(words, at),
@@ -96,22 +69,20 @@ fn matrix_at(words: &[u32; 32], at: usize) -> D3DMATRIX
     }
 }
 
-fn put_row(out: &mut [u32; 16], at: usize, r: Row)
-    requires { at + 4 ≤ 16 }
-{
-    out[at] = float32::bits_of(r.x);
-    out[at + 1] = float32::bits_of(r.y);
-    out[at + 2] = float32::bits_of(r.z);
-    out[at + 3] = float32::bits_of(r.w);
+fn row_words(r: Row) -> [u32; 4] {
+    [
+        float32::bits_of(r.x),
+        float32::bits_of(r.y),
+        float32::bits_of(r.z),
+        float32::bits_of(r.w),
+    ]
 }
 
-// The words of m, by rows.
-fn put_matrix(out: &mut [u32; 16], m: D3DMATRIX) -> Answer
-    ensures { Within result }
-{
-    put_row(out, 0, m.r0);
-    put_row(out, 4, m.r1);
-    put_row(out, 8, m.r2);
-    put_row(out, 12, m.r3);
-    Answer::Words(16)
+fn words_of(m: D3DMATRIX) -> Words {
+    Words::Matrix([
+        row_words(m.r0),
+        row_words(m.r1),
+        row_words(m.r2),
+        row_words(m.r3),
+    ])
 }

@@ -1,63 +1,84 @@
-// The answer to a line, as text.
-ghost use Rattle.std.specs.Prelude.{◌≡◌, ◌+◌, ◌*◌, ◌<◌, ◌≤◌, length};
-ghost use Rattle.replay_text.specs.Answer.{Within};
+// The answer to a line, and its text.
+ghost use Rattle.std.specs.Prelude.{◌≡◌, ◌≤◌, ◌++◌, IfOk, Some, codes, decimal, string_bytes, length};
+ghost use Rattle.replay_text.specs.declared.answer.TheConstants.{LONGEST};
+ghost use Rattle.replay_text.specs.Answer.{Within, slice, words_text, unanswered_text, line_text};
 
-use crate::hex::put_word;
-use crate::text::put_text;
+use crate::hex::Word;
+use std::alloc::{AllocError, Global};
+use std::fmt;
 
+// The longest line has 16 words, each with a space or the newline after it.
+pub const LONGEST: usize = 144;
+
+// The words that a call answered.
 #[derive(Clone, Copy)]
-pub enum Answer {
-    // So many words of the answer's array.
-    Words(usize),
+pub enum Words {
+    Scalar([u32; 1]),
+    Told([u32; 4]),
+    Matrix([[u32; 4]; 4]),
+}
+
+impl Words {
+    pub fn as_slice(&self) -> &[u32]
+        ensures words { result.now ≡ slice self.now }
+        ensures length { Within result.now }
+    {
+        match self {
+            Words::Scalar(words) => words,
+            Words::Told(words) => words,
+            Words::Matrix(rows) => rows.as_flattened(),
+        }
+    }
+}
+
+impl fmt::Display for Words {
+    ghost output = { λ words. Some (words_text (slice words)) };
+
+    fn fmt<W: fmt::Write>(&self, f: &mut fmt::Formatter<W>) -> fmt::Result {
+        if let Some((first, rest)) = self.as_slice().split_first() {
+            let first = Word(*first);
+            write!(f, "{first}")?;
+            for w in rest {
+                let w = Word(*w);
+                write!(f, " {w}")?;
+            }
+        }
+        Ok(())
+    }
+}
+
+// Why a line has no words for an answer.
+#[derive(Clone, Copy, Debug, PartialEq, Eq)]
+pub enum Unanswered {
     // The number of a refusal of document 01.
     Refused(u32),
     // No such call.
-    Bad,
+    BadLine,
 }
 
-// Puts n words at `at`, a space between two of them and a newline at the end.
-fn put_words(dst: &mut [u8], at: usize, words: &[u32; 16], n: usize) -> usize
-    requires { (0 < n) × (n ≤ 16) × (at + 9 * n ≤ length dst.old) }
-    ensures { result ≡ at + 9 * n }
-{
-    let mut i = 0;
-    let mut end = at;
-    while i < n {
-        let space = put_word(dst, end, words[i]);
-        dst[space] = b' ';
-        end = space + 1;
-        i += 1;
+impl fmt::Display for Unanswered {
+    ghost output = { λ u. Some (unanswered_text u) };
+
+    fn fmt<W: fmt::Write>(&self, f: &mut fmt::Formatter<W>) -> fmt::Result {
+        match self {
+            Unanswered::Refused(why) => write!(f, "refused {why}"),
+            Unanswered::BadLine => write!(f, "bad line"),
+        }
     }
-    dst[end - 1] = b'\n';
-    end
 }
 
-fn put_refusal(dst: &mut [u8], at: usize, why: u32) -> usize
-    requires { at + 19 ≤ length dst.old }
-    ensures { result ≤ at + 19 }
+// The answer's line, with its newline.
+pub fn answer_line(alloc: Global, answer: Result<Words, Unanswered>) -> Result<String, AllocError>
+    ensures text { IfOk result (λ line. string_bytes line ≡ line_text answer) }
+    ensures length { IfOk result (λ line. length (string_bytes line) ≤ LONGEST) }
 {
-    let mut text = [0u8; 20];
-    let n = io::decimal(why as u64, &mut text);
-    let number = put_text(dst, at, b"refused ");
-    let end = put_text(dst, number, &text[..n]);
-    put_text(dst, end, b"\n")
-}
-
-fn put_bad(dst: &mut [u8], at: usize) -> usize
-    requires { at + 9 ≤ length dst.old }
-    ensures { result ≡ at + 9 }
-{
-    put_text(dst, at, b"bad line\n")
-}
-
-// The longest answer has 16 words of nine bytes, 144.
-pub fn put_answer(dst: &mut [u8], at: usize, a: Answer, words: &[u32; 16]) -> usize
-    requires { Within a × (at + 144 ≤ length dst.old) }
-    ensures { result ≤ at + 144 }
-{
-    match a {
-        Answer::Words(n) => put_words(dst, at, words, n),
-        Answer::Refused(why) => put_refusal(dst, at, why),
-        Answer::Bad => put_bad(dst, at),
+    match answer {
+        Ok(words) => {
+            // Nine bytes for each word: its digits, and a space or the newline.
+            let mut line = String::with_capacity(alloc, 9 * words.as_slice().len())?;
+            writeln!(line, "{words}")?;
+            Ok(line)
+        }
+        Err(why) => format!(in alloc; "{why}\n"),
     }
 }

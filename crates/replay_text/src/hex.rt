@@ -1,63 +1,44 @@
 // Words as text: eight hexadecimal digits in lower case, the most significant first.
-ghost use Rattle.std.specs.Prelude.{◌≡◌, ◌+◌, ◌≤◌, length};
+ghost use Rattle.std.specs.Prelude.{Some};
 ghost use Rattle.io.specs.Digits.{last_digits};
 ghost use Rattle.replay_text.specs.Hex.{IsDigit, IsWord};
-ghost use Rattle.replay_text.specs.Text.{laid};
 
-use crate::text::put_text;
-
-// A byte's value as a digit.
-#[derive(Clone, Copy)]
-pub enum Digit {
-    Value(u32),
-    Bad,
-}
+use std::fmt;
 
 #[derive(Clone, Copy)]
-pub enum Word {
-    Value(u32),
-    Bad,
+pub struct Word(pub u32);
+
+impl fmt::Display for Word {
+    ghost output = { λ w. Some (last_digits 16 8 w.0) };
+
+    #[tactic(auto, using(crate::proofs::hex::Padded::word_text))]
+    fn fmt<W: fmt::Write>(&self, f: &mut fmt::Formatter<W>) -> fmt::Result {
+        let w = self.0;
+        write!(f, "{w:08x}")
+    }
 }
 
-pub fn hex_digit(b: u8) -> Digit
+// Not `char::to_digit`: it takes upper case too.
+fn hex_digit(b: u8) -> Option<u32>
     ensures { IsDigit b result }
 {
     match b {
-        b'0'..=b'9' => Digit::Value((b - b'0') as u32),
-        b'a'..=b'f' => Digit::Value((b - b'a') as u32 + 10),
-        _ => Digit::Bad,
+        b'0'..=b'9' => Some(u32::from(b - b'0')),
+        b'a'..=b'f' => Some(u32::from(b - b'a') + 10),
+        _ => None,
     }
 }
 
-// The word whose text starts at `at`.
-pub fn word_at(s: &[u8], at: usize) -> Word
-    ensures { IsWord s.now at result }
+// The word that the text is. Not `from_str_radix`: it takes a sign and upper case too.
+pub fn word_of(text: &[u8]) -> Option<u32>
+    ensures { IsWord text.now result }
 {
-    if s.len() < 8 {
-        return Word::Bad;
+    if text.len() != 8 {
+        return None;
     }
-    if s.len() - 8 < at {
-        return Word::Bad;
+    let mut w = 0;
+    for b in text {
+        w = w * 16 + hex_digit(*b)?;
     }
-    let mut w = 0u32;
-    let mut i = 0usize;
-    while i < 8 {
-        let Digit::Value(d) = hex_digit(s[at + i]) else {
-            return Word::Bad;
-        };
-        w = w * 16 + d;
-        i += 1;
-    }
-    Word::Value(w)
-}
-
-// Puts the text of w at `at`.
-pub fn put_word(dst: &mut [u8], at: usize, w: u32) -> usize
-    requires { at + 8 ≤ length dst.old }
-    ensures value { result ≡ at + 8 }
-    ensures dst_after { dst.new ≡ laid dst.old at (last_digits 16 8 w) }
-{
-    let mut text = [0u8; 16];
-    let n = io::hex(w as u64, 8, &mut text);
-    put_text(dst, at, &text[..n])
+    Some(w)
 }

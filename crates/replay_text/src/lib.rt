@@ -1,11 +1,8 @@
-// Words as text, and answers, through a buffer that is written when it is full.
+// Words as text, and the lines that answer calls.
 #![tactic(auto)]
 
 mod answer;
 mod hex;
-mod room;
-mod text;
 
-pub use answer::Answer;
-pub use hex::{Word, word_at};
-pub use room::{put_held, write_last};
+pub use answer::{LONGEST, Unanswered, Words, answer_line};
+pub use hex::word_of;

@@ -1,4 +1,4 @@
--- Every float of a packed row is an f32 value. Assumes nothing.
+-- Every float of a packed row is an f32 value.
 use Prim.Native.Nat.{ℕ, zero, suc}
 use mathlib.Core.Bool.{Bool, true, false}
 use mathlib.Core.List.{List, [], ◌∷◌, ◌++◌}

@@ -1,6 +1,6 @@
--- A loop that writes items of w rows each, one behind the other, into a destination of just their length. Assumes nothing.
+-- A loop that writes items of w rows each, one behind the other, into a destination of just their length.
 use Prim.Native.Nat.{ℕ, ◌+◌, ◌*◌, ◌≤◌, ◌<◌}
-use native.Mathlib.Nat.{zero-add, mul-suc, mul_assoc, mul-le-mul_left}
+use native.Mathlib.Nat.{zero-add, mul-suc, mul_assoc}
 use native.Mathlib.Numerals.{add-one}
 use native.Mathlib.Omega.{arith}
 use mathlib.Core.Path.{◌≡◌, refl, sym, ap, ◌∙◌}
@@ -30,12 +30,6 @@ module _ {A : Type 0} (f : A → List Row) (w : ℕ) (wide : (x : A) → length 
     pub begins : n ≤ length xs → length m ≡ 4 * w * n → Standing f w n xs m m 0 0
     unfolding floats rows_of
     begins h e = record { most = omega arith; enough = h; next = omega arith; room = e; same = refl; is = refl }
-
-    -- there is room for one more
-    pub fits : (dst : List Float) (i at : ℕ) → Standing f w n xs m dst i at → i < n → at + 4 * w ≤ length dst
-    fits dst i at s h =
-        let more : 4 * w * i + 4 * w ≤ 4 * w * n = rw mul-suc at (mul-le-mul_left (4 * w) h) in
-        omega (arith, s.next, s.room, s.same)
 
     pub goes_on : (d : A) (i at : ℕ) (dst dst' : List Float) → Standing f w n xs m dst i at → i < n
         → dst' ≡ sets dst at (floats (f (get_or xs i d))) → Standing f w n xs m dst' (i + 1) (at + 4 * w)

@@ -3,3 +3,4 @@ pub mod Floats
 pub mod Items
 pub mod Fits
 pub mod Scene
+pub mod Literals

@@ -1,5 +1,5 @@
 -- A scene, computed. Its inputs are whole numbers, each in one place, and the expected bits are the Rust's (`oracle/run scene`): what code and definition bent alike would exchange stands elsewhere here.
--- Assumes nothing.
+--
 use Prim.Native.Nat.{ℕ}
 use mathlib.Core.Path.{◌≡◌, refl}
 use mathlib.Core.Bool.{true}

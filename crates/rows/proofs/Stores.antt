@@ -1,5 +1,5 @@
 -- Runs of stores: one run behind the other is one run, and a run as long as the list is what the list then is.
--- Assumes nothing.
+--
 use Prim.Native.Nat.{ℕ, suc, ◌+◌}
 use native.Mathlib.Nat.{add-zero}
 use native.Mathlib.Omega.{arith}

@@ -6,12 +6,14 @@ ghost use Rattle.rows.specs.Ambient.{over_full, rgba_of, ambient_rows};
 use crate::write::write_row;
 use d3d9_types::Row;
 
+#[tactic(auto, using(crate::proofs::Literals::full_is), unfolding(crate::specs::Ambient::over_full))]
 fn over_full(byte: u8) -> f32
     ensures { result ≡ over_full byte }
 {
     byte as f32 / 255.0
 }
 
+#[tactic(auto, unfolding(crate::specs::Ambient::rgba_of))]
 pub fn d3dcolor_to_rgba_f32(color: u32) -> Row
     ensures { result ≡ rgba_of color }
 {
@@ -23,6 +25,7 @@ pub fn d3dcolor_to_rgba_f32(color: u32) -> Row
     }
 }
 
+#[tactic(auto, using(crate::proofs::Floats::one_row))]
 pub fn write_ambient(dst: &mut [f32], color: u32)
     requires { length dst.old ≡ 4 }
     ensures { dst.new ≡ floats (ambient_rows color) }

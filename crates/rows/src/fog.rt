@@ -6,6 +6,7 @@ ghost use Rattle.rows.specs.Fog.{fog_row, fog_rows};
 use crate::write::write_row;
 use d3d9_types::Row;
 
+#[tactic(auto, using(d3d9_types::proofs::Literals::zero_is), unfolding(crate::specs::Fog::fog_row))]
 fn fog_row(mode: u8, start: f32, end: f32, density: f32) -> Row
     ensures { result ≡ fog_row mode start end density }
 {
@@ -25,6 +26,7 @@ fn fog_row(mode: u8, start: f32, end: f32, density: f32) -> Row
     }
 }
 
+#[tactic(auto, using(crate::proofs::Floats::one_row))]
 pub fn write_fog(dst: &mut [f32], mode: u8, start: f32, end: f32, density: f32)
     requires { length dst.old ≡ 4 }
     ensures { dst.new ≡ floats (fog_rows mode start end density) }

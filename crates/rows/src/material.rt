@@ -5,17 +5,18 @@ ghost use Rattle.rows.specs.Rows.{floats};
 ghost use Rattle.rows.specs.Material.{material_rows};
 
 use crate::write::write_row;
-use d3d9_types::{D3DMATERIAL9, Row, color_row};
+use d3d9_types::{D3DMATERIAL9, Row};
 
 // The four colours.
+#[tactic(auto, using(crate::proofs::Floats::four_rows), unfolding(crate::specs::Material::material_rows))]
 fn write_colors(dst: &mut [f32], m: D3DMATERIAL9)
     requires { 16 ≤ length dst.old }
     ensures { dst.new ≡ sets dst.old 0 (floats (material_rows true false m)) }
 {
-    write_row(dst, 0, color_row(m.diffuse));
-    write_row(dst, 4, color_row(m.ambient));
-    write_row(dst, 8, color_row(m.specular));
-    write_row(dst, 12, color_row(m.emissive));
+    write_row(dst, 0, Row::from(m.diffuse));
+    write_row(dst, 4, Row::from(m.ambient));
+    write_row(dst, 8, Row::from(m.specular));
+    write_row(dst, 12, Row::from(m.emissive));
 }
 
 pub fn write_material(dst: &mut [f32], lit: bool, specular: bool, m: D3DMATERIAL9)
@@ -23,18 +24,17 @@ pub fn write_material(dst: &mut [f32], lit: bool, specular: bool, m: D3DMATERIAL
     ensures { dst.new ≡ floats (material_rows lit specular m) }
 {
     if !lit {
-        write_row(dst, 0, color_row(m.diffuse));
+        write_row(dst, 0, Row::from(m.diffuse));
         return;
     }
     write_colors(dst, m);
-    if !specular {
-        return;
+    if specular {
+        let power = Row {
+            x: m.power,
+            y: 0.0,
+            z: 0.0,
+            w: 0.0,
+        };
+        write_row(dst, 16, power);
     }
-    let power = Row {
-        x: m.power,
-        y: 0.0,
-        z: 0.0,
-        w: 0.0,
-    };
-    write_row(dst, 16, power);
 }

@@ -8,8 +8,9 @@ use crate::write::write_matrix;
 use d3d9_types::D3DMATRIX;
 use matrix::{times_row, transpose};
 
-// The product once more, by its rows: with one caller it becomes part of the loop, where `mat_mul`, which has
-// several, is called and its matrices are copied for it.
+// The product once more, by its rows: with one caller it becomes part of the loop. `mat_mul`, which has several, is
+// called, its matrices are copied for it, and it misses the bar of speed that this meets.
+#[tactic(auto, unfolding(matrix::specs::Product::mat_mul, matrix::specs::Product::times_row, matrix::specs::Entry::row))]
 fn product(a: D3DMATRIX, b: D3DMATRIX) -> D3DMATRIX
     ensures { result ≡ mat_mul a b }
 {
@@ -21,16 +22,13 @@ fn product(a: D3DMATRIX, b: D3DMATRIX) -> D3DMATRIX
     }
 }
 
-// The first n matrices.
+// The first n matrices. An array and a count: a part of the array was tried, and of a state that is lent the proof of the part's length did
+// not close.
 pub fn write_palette(dst: &mut [f32], view: D3DMATRIX, palette: [D3DMATRIX; 256], n: usize)
     requires { (n ≤ 256) × (length dst.old ≡ 16 * n) }
     ensures { dst.new ≡ floats (palette_rows view (take n palette)) }
 {
-    let mut i = 0usize;
-    let mut at = 0usize;
-    while i < n {
-        write_matrix(dst, at, transpose(product(palette[i], view)));
-        i = i + 1;
-        at = at + 16;
+    for i in 0..n {
+        write_matrix(dst, 16 * i, transpose(product(palette[i], view)));
     }
 }

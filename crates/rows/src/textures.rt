@@ -14,12 +14,7 @@ pub fn write_textures(dst: &mut [f32], textures: [D3DMATRIX; 8], mask: u8)
     requires { length dst.old ≡ 16 * Counts.places mask }
     ensures { dst.new ≡ floats (texture_rows mask textures) }
 {
-    let n = places(mask) as usize;
-    let mut i = 0usize;
-    let mut at = 0usize;
-    while i < n {
-        write_matrix(dst, at, transpose(textures[i]));
-        i = i + 1;
-        at = at + 16;
+    for i in 0..usize::from(places(mask)) {
+        write_matrix(dst, 16 * i, transpose(textures[i]));
     }
 }

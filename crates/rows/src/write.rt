@@ -6,6 +6,7 @@ ghost use Rattle.rows.specs.Matrices.{matrix_rows};
 
 use d3d9_types::{D3DMATRIX, Row};
 
+#[tactic(auto, using(crate::proofs::Stores::sets_four))]
 pub fn write_row(dst: &mut [f32], at: usize, r: Row)
     requires { at + 4 ≤ length dst.old }
     ensures { dst.new ≡ sets dst.old at (row_floats r) }
@@ -16,6 +17,7 @@ pub fn write_row(dst: &mut [f32], at: usize, r: Row)
     dst[at + 3] = r.w;
 }
 
+#[tactic(auto, using(crate::proofs::Floats::four_rows))]
 pub fn write_matrix(dst: &mut [f32], at: usize, m: D3DMATRIX)
     requires { at + 16 ≤ length dst.old }
     ensures { dst.new ≡ sets dst.old at (floats (matrix_rows m)) }

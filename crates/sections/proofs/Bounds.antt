@@ -1,4 +1,4 @@
--- How many places a mask has, and how many rows a section at most. Assumes nothing.
+-- How many places a mask has, and how many rows a section at most.
 use Prim.Native.Nat.{ℕ, ◌+◌, ◌-◌, ◌*◌, ◌^◌, ◌≤◌, ◌<◌}
 use native.Mathlib.Omega.{arith}
 use mathlib.Core.Path.{◌≡◌, subst}

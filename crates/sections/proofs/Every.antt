@@ -1,4 +1,4 @@
--- What is computed of all the sections holds of each. Assumes nothing.
+-- What is computed of all the sections holds of each.
 use Prim.Native.Nat.{ℕ, zero, suc, ◌^◌, ◌<◌}
 use native.Mathlib.Nat.{le_of_suc-le-suc, not-suc-le-zero}
 use native.Mathlib.Omega.{arith}
@@ -9,8 +9,13 @@ use lib.Dec.{T}
 use lib.ListN.{length, get_or, drop}
 use lib.Ieee.Fits.{and_l, and_r}
 use Rattle.sections.specs.Sections.{sections, bit_of, bit_place}
+use Rattle.sections.specs.declared.sections.TheConstants.{SECTIONS}
 use Rattle.sections.specs.declared.sections.Section.{Section}
 use Rattle.sections.specs.declared.sections.Section.TheVariants.{Wv, Proj, Material, Lights, Palette, Tt, Fog, Ambient}
+
+-- the array of the code
+pub sections_are : SECTIONS ≡ sections
+sections_are = refl
 
 -- a test of every section
 abbrev pub every : (Section → Bool) → List Section → Bool

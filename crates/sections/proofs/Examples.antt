@@ -1,5 +1,5 @@
 -- The papers' numbers by name, computed: the sections that a word of one bit names, where each begins, and some row counts. Code and table bent alike would name another.
--- Assumes nothing.
+--
 use Prim.Native.Nat.{ℕ}
 use mathlib.Core.Path.{◌≡◌, refl}
 use mathlib.Core.Bool.{Bool, true, false, cond}

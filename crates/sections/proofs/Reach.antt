@@ -1,4 +1,4 @@
--- The row count is what the table says: one with HAS_RHW, else the row behind the last of the sections that are read. Assumes nothing.
+-- The row count is what the table says: one with HAS_RHW, else the row behind the last of the sections that are read.
 use Prim.Native.Nat.{ℕ, zero, suc, ◌+◌, ◌*◌, ◌/◌, ◌≤◌, max, zero-le}
 use native.Mathlib.Nat.{zero-mul, mul-suc}
 use native.Mathlib.Omega.{arith}

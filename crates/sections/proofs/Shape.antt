@@ -1,5 +1,5 @@
 -- A key's shape leaves HAS_RHW alone free and decides how many lights are packed, which are as many as the mask that the key can name.
--- Assumes nothing.
+--
 use Prim.Native.Nat.{◌≤◌}
 use native.Mathlib.Omega.{arith}
 use mathlib.Core.Path.{◌≡◌, refl, ap}

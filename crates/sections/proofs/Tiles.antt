@@ -1,4 +1,4 @@
--- The sections lie one behind the other and fit document 01's 1,115 rows, whatever the key, and each is told by its first row. Assumes nothing.
+-- The sections lie one behind the other and fit document 01's 1,115 rows, whatever the key, and each is told by its first row.
 use Prim.Native.Nat.{ℕ, ◌+◌, ◌≤◌, ◌<◌}
 use native.Mathlib.Omega.{arith}
 use mathlib.Core.Path.{◌≡◌}

@@ -7,36 +7,25 @@ use crate::key::FfVsKey;
 use crate::sections::Section;
 
 // The places of a mask up to its highest bit.
+#[tactic(auto, unfolding(crate::specs::Counts::places))]
 pub fn places(mask: u8) -> u16
     ensures { result ≡ Counts.places mask }
 {
-    (8 - u8::leading_zeros(mask)) as u16
+    (8 - mask.leading_zeros()) as u16
 }
 
-pub fn wv_section_rows() -> u16
-    ensures { result ≡ 4 }
-{
-    4
-}
-
-pub fn proj_section_rows() -> u16
-    ensures { result ≡ 4 }
-{
-    4
-}
-
+#[tactic(auto, unfolding(crate::specs::Counts::material_count))]
 pub fn material_section_rows(key: FfVsKey) -> u16
     ensures { result ≡ material_count key }
 {
-    if !key.lighting_enabled {
-        return 1;
+    match (key.lighting_enabled, key.specular_enable) {
+        (false, _) => 1,
+        (true, false) => 4,
+        (true, true) => 5,
     }
-    if key.specular_enable {
-        return 5;
-    }
-    4
 }
 
+#[tactic(auto, using(crate::proofs::Bounds::places_most), unfolding(crate::specs::Counts::light_count))]
 pub fn lights_section_rows(key: FfVsKey) -> u16
     ensures { result ≡ light_count key }
 {
@@ -44,41 +33,29 @@ pub fn lights_section_rows(key: FfVsKey) -> u16
 }
 
 // Indexed blending reads any matrix up to the last that an index reaches.
+#[tactic(auto, unfolding(crate::specs::Counts::palette_matrices))]
 pub fn palette_matrices(key: FfVsKey) -> u16
     ensures { result ≡ palette_matrices key }
 {
-    let count = key.vertex_blend_count as u16;
-    if count == 0 {
-        return 0;
+    match u16::from(key.vertex_blend_count) {
+        0 => 0,
+        _ if key.vertex_blend_indexed => 40,
+        count => count,
     }
-    if key.vertex_blend_indexed {
-        return 40;
-    }
-    count
 }
 
+#[tactic(auto, using(crate::proofs::Bounds::matrices_most), unfolding(crate::specs::Counts::palette_count))]
 pub fn palette_section_rows(key: FfVsKey) -> u16
     ensures { result ≡ palette_count key }
 {
     palette_matrices(key) * 4
 }
 
+#[tactic(auto, using(crate::proofs::Bounds::places_most), unfolding(crate::specs::Counts::texture_count))]
 pub fn tt_section_rows(texture_mask: u8) -> u16
     ensures { result ≡ texture_count texture_mask }
 {
     places(texture_mask) * 4
-}
-
-pub fn fog_section_rows() -> u16
-    ensures { result ≡ 1 }
-{
-    1
-}
-
-pub fn ambient_section_rows() -> u16
-    ensures { result ≡ 1 }
-{
-    1
 }
 
 // The rows of a section by its name.
@@ -86,13 +63,13 @@ pub fn section_rows(section: Section, key: FfVsKey, texture_mask: u8) -> u16
     ensures { result ≡ section_rows section key texture_mask }
 {
     match section {
-        Section::Wv => wv_section_rows(),
-        Section::Proj => proj_section_rows(),
+        Section::Wv => 4,
+        Section::Proj => 4,
         Section::Material => material_section_rows(key),
         Section::Lights => lights_section_rows(key),
         Section::Palette => palette_section_rows(key),
         Section::Tt => tt_section_rows(texture_mask),
-        Section::Fog => fog_section_rows(),
-        Section::Ambient => ambient_section_rows(),
+        Section::Fog => 1,
+        Section::Ambient => 1,
     }
 }

@@ -3,7 +3,7 @@ ghost use Rattle.std.specs.Prelude.{◌≡◌};
 ghost use Rattle.sections.specs.Key.{light_limit};
 
 #[repr(C)]
-#[derive(Clone, Copy)]
+#[derive(Clone, Copy, Debug, PartialEq, Eq)]
 pub struct FfVsKey {
     pub has_rhw: bool,
     pub lighting_enabled: bool,
@@ -17,11 +17,9 @@ pub struct FfVsKey {
 }
 
 // How many of the active lights are packed under the key, at most.
+#[tactic(auto, unfolding(crate::specs::Key::limit_of))]
 pub fn light_limit(key: FfVsKey) -> usize
     ensures { result ≡ light_limit key }
 {
-    if key.preview {
-        return 4;
-    }
-    8
+    if key.preview { 4 } else { 8 }
 }

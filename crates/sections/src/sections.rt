@@ -2,7 +2,7 @@
 ghost use Rattle.std.specs.Prelude.{◌≡◌};
 ghost use Rattle.sections.specs.Sections.{bit_of, first_row};
 
-#[derive(Clone, Copy)]
+#[derive(Clone, Copy, Debug, PartialEq, Eq)]
 pub enum Section {
     Wv,
     Proj,
@@ -32,6 +32,22 @@ pub const AMBIENT: u8 = 128;
 
 pub const ALL: u8 = WV + PROJ + MATERIAL + LIGHTS + PALETTE + TT + FOG + AMBIENT;
 
+// The floats of a mirror: 1,115 rows of four. Every section lies within.
+pub const MIRROR_FLOATS: usize = 4460;
+
+// Each section once, in the order of their bits.
+pub const SECTIONS: [Section; 8] = [
+    Section::Wv,
+    Section::Proj,
+    Section::Material,
+    Section::Lights,
+    Section::Palette,
+    Section::Tt,
+    Section::Fog,
+    Section::Ambient,
+];
+
+// A section has a bit, a first row and a count of rows: none of the three is what it converts to.
 pub fn section_bit(section: Section) -> u8
     ensures { result ≡ bit_of section }
 {

@@ -31,7 +31,7 @@ use Rattle.agreement.proofs.Dirty.{taken_valid}
 use Rattle.refresh.specs.Answer.{refresh_answer, refresh_number}
 use Rattle.refresh.specs.Mirror.{RefreshOutcome, refresh_mirror}
 use Rattle.refresh.specs.Written.{written}
-use Rattle.refresh.specs.declared.answer.RefreshAnswer.TheVariants.{Accepted}
+use Rattle.std.specs.Prelude.{Ok}
 use Rattle.refresh.proofs.Answers.{accepted_fits}
 use Rattle.refresh.proofs.Laws as Laws
 use Rattle.refresh.proofs.Packed.{Ready}
@@ -102,7 +102,7 @@ accepts_is a k whole = go (eqb (refresh_refusal a k whole) 0) refl
 accepts_same : (a : AbstractState) (j k : FfVsKey) (whole : Bool) → accepts a j whole ≡ some k → j ≡ k
 accepts_same a j k whole e = ⊎_elim (λ y. some_is (sym y.1 ∙ e)) (λ n. not_some (sym n.1 ∙ e)) (accepts_is a j whole)
 
-ready_for : {w : World} {s : FfState} → Invariant w s → (k : FfVsKey) → KeyFits k → (n : ℕ) → refresh_answer s k n ≡ Accepted → Ready s k
+ready_for : {w : World} {s : FfState} → Invariant w s → (k : FfVsKey) → KeyFits k → (n : ℕ) → refresh_answer s k n ≡ Ok tt → Ready s k
 ready_for {s = s} inv k fit n e = record { count = fit.count; palette = inv.valid.palette_length; textures = inv.valid.texture_length; mask = (accepted_fits s k n e).mask }
 
 module _ {w : World} {s : FfState} (inv : Invariant w s) (k : FfVsKey) (fit : KeyFits k) (lent : List Float) where
@@ -123,7 +123,7 @@ module _ {w : World} {s : FfState} (inv : Invariant w s) (k : FfVsKey) (fit : Ke
       no : (refresh_refusal w.abstract k (eqb (length lent) 4460) ≡ 0 → ⊥) × (accepts w.abstract k (eqb (length lent) 4460) ≡ none)
           → Leaves s k (accepts w.abstract k (eqb (length lent) 4460)) lent (refresh_mirror s k lent).floats (value (refresh_mirror s k lent).result.state)
       no n =
-          let is = Laws.refused_same s k lent (λ (e : refresh_answer s k (length lent) ≡ Accepted). n.0 (sym number ∙ ap refresh_number e)) in
+          let is = Laws.refused_same s k lent (λ (e : refresh_answer s k (length lent) ≡ Ok tt). n.0 (sym number ∙ ap refresh_number e)) in
           refuses n.1 (ap (λ (o : RefreshOutcome). o.floats) is) (ap (λ (o : RefreshOutcome). o.result.state) is)
 
 -- ---- a host's calls

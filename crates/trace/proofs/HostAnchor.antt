@@ -5,7 +5,10 @@ use mathlib.Core.Path.{◌≡◌}
 use borrow.Fn.Kinds.{Dens, ended_of}
 use contract.Lifetimes.{Lfts}
 use denote.Triple.Clauses.{AtExit}
+use Rattle.std.specs.Prelude.{Result}
 use Rattle.calls.specs.Answer.{answer}
+use Rattle.calls.specs.Refusal.{code, value_or}
+use Rattle.calls.specs.declared.refusal.Refusal.{Refusal}
 use Rattle.pack_calls.specs.Key.{key_of}
 use Rattle.refresh_calls.specs.Mirror.{left}
 use Rattle.transform_calls.proofs.set_transform.Kinds as call-set-transform-kinds
@@ -64,75 +67,74 @@ use Rattle.trace.specs.Step.{ours}
 
 pub call_set_transform_anchored : (κs : Lfts 2) (a : Dens κs call-set-transform-kinds.ps)
     → call-set-transform-reads.Asked κs a
-    × ((r : ℕ) (e : AtExit (ended_of 2 call-set-transform-kinds.ps call-set-transform-kinds.r) κs) → call-set-transform-reads.Learnt κs a r e → answer r e.0.now ≡ host_answer (set_transform a.1.0 a.1.1.0.now) a.0.now)
+    × ((r : Result (Unit {0}) Refusal) (e : AtExit (ended_of 2 call-set-transform-kinds.ps call-set-transform-kinds.r) κs) → call-set-transform-reads.Learnt κs a r e → answer (code r) e.0.now ≡ host_answer (set_transform a.1.0 a.1.1.0.now) a.0.now)
 unfolding host_answer
 call_set_transform_anchored κs a = (tt, λ r e h. h)
 
 pub call_multiply_transform_anchored : (κs : Lfts 2) (a : Dens κs call-multiply-transform-kinds.ps)
     → call-multiply-transform-reads.Asked κs a
-    × ((r : ℕ) (e : AtExit (ended_of 2 call-multiply-transform-kinds.ps call-multiply-transform-kinds.r) κs) → call-multiply-transform-reads.Learnt κs a r e → answer r e.0.now ≡ host_answer (multiply_transform a.1.0 a.1.1.0.now) a.0.now)
+    × ((r : Result (Unit {0}) Refusal) (e : AtExit (ended_of 2 call-multiply-transform-kinds.ps call-multiply-transform-kinds.r) κs) → call-multiply-transform-reads.Learnt κs a r e → answer (code r) e.0.now ≡ host_answer (multiply_transform a.1.0 a.1.1.0.now) a.0.now)
 unfolding host_answer
 call_multiply_transform_anchored κs a = (tt, λ r e h. h)
 
 pub call_set_material_anchored : (κs : Lfts 2) (a : Dens κs call-set-material-kinds.ps)
     → call-set-material-reads.Asked κs a
-    × ((r : ℕ) (e : AtExit (ended_of 2 call-set-material-kinds.ps call-set-material-kinds.r) κs) → call-set-material-reads.Learnt κs a r e → answer r e.0.now ≡ host_answer (set_material a.1.0.now) a.0.now)
+    × ((r : Result (Unit {0}) Refusal) (e : AtExit (ended_of 2 call-set-material-kinds.ps call-set-material-kinds.r) κs) → call-set-material-reads.Learnt κs a r e → answer (code r) e.0.now ≡ host_answer (set_material a.1.0.now) a.0.now)
 unfolding host_answer
 call_set_material_anchored κs a = (tt, λ r e h. h)
 
 pub call_set_light_anchored : (κs : Lfts 2) (a : Dens κs call-set-light-kinds.ps)
     → call-set-light-reads.Asked κs a
-    × ((r : ℕ) (e : AtExit (ended_of 2 call-set-light-kinds.ps call-set-light-kinds.r) κs) → call-set-light-reads.Learnt κs a r e → answer r e.0.now ≡ host_answer (set_light a.1.0 a.1.1.0.now) a.0.now)
+    × ((r : Result (Unit {0}) Refusal) (e : AtExit (ended_of 2 call-set-light-kinds.ps call-set-light-kinds.r) κs) → call-set-light-reads.Learnt κs a r e → answer (code r) e.0.now ≡ host_answer (set_light a.1.0 a.1.1.0.now) a.0.now)
 unfolding host_answer
 call_set_light_anchored κs a = (tt, λ r e h. h)
 
 pub call_enable_light_anchored : (κs : Lfts 1) (a : Dens κs call-enable-light-kinds.ps)
     → call-enable-light-reads.Asked κs a
-    × ((r : ℕ) (e : AtExit (ended_of 1 call-enable-light-kinds.ps call-enable-light-kinds.r) κs) → call-enable-light-reads.Learnt κs a r e → answer r e.0.now ≡ host_answer (enable_light a.1.0 a.1.1.0) a.0.now)
+    × ((r : Result (Unit {0}) Refusal) (e : AtExit (ended_of 1 call-enable-light-kinds.ps call-enable-light-kinds.r) κs) → call-enable-light-reads.Learnt κs a r e → answer (code r) e.0.now ≡ host_answer (enable_light a.1.0 a.1.1.0) a.0.now)
 unfolding host_answer
 call_enable_light_anchored κs a = (tt, λ r e h. h)
 
 pub call_set_fog_start_anchored : (κs : Lfts 1) (a : Dens κs call-set-fog-start-kinds.ps)
     → call-set-fog-start-reads.Asked κs a
-    × ((r : ℕ) (e : AtExit (ended_of 1 call-set-fog-start-kinds.ps call-set-fog-start-kinds.r) κs) → call-set-fog-start-reads.Learnt κs a r e → answer r e.0.now ≡ host_answer (set_fog_start a.1.0) a.0.now)
+    × ((r : Result (Unit {0}) Refusal) (e : AtExit (ended_of 1 call-set-fog-start-kinds.ps call-set-fog-start-kinds.r) κs) → call-set-fog-start-reads.Learnt κs a r e → answer (code r) e.0.now ≡ host_answer (set_fog_start a.1.0) a.0.now)
 unfolding host_answer
 call_set_fog_start_anchored κs a = (tt, λ r e h. h)
 
 pub call_set_fog_end_anchored : (κs : Lfts 1) (a : Dens κs call-set-fog-end-kinds.ps)
     → call-set-fog-end-reads.Asked κs a
-    × ((r : ℕ) (e : AtExit (ended_of 1 call-set-fog-end-kinds.ps call-set-fog-end-kinds.r) κs) → call-set-fog-end-reads.Learnt κs a r e → answer r e.0.now ≡ host_answer (set_fog_end a.1.0) a.0.now)
+    × ((r : Result (Unit {0}) Refusal) (e : AtExit (ended_of 1 call-set-fog-end-kinds.ps call-set-fog-end-kinds.r) κs) → call-set-fog-end-reads.Learnt κs a r e → answer (code r) e.0.now ≡ host_answer (set_fog_end a.1.0) a.0.now)
 unfolding host_answer
 call_set_fog_end_anchored κs a = (tt, λ r e h. h)
 
 pub call_set_fog_density_anchored : (κs : Lfts 1) (a : Dens κs call-set-fog-density-kinds.ps)
     → call-set-fog-density-reads.Asked κs a
-    × ((r : ℕ) (e : AtExit (ended_of 1 call-set-fog-density-kinds.ps call-set-fog-density-kinds.r) κs) → call-set-fog-density-reads.Learnt κs a r e → answer r e.0.now ≡ host_answer (set_fog_density a.1.0) a.0.now)
+    × ((r : Result (Unit {0}) Refusal) (e : AtExit (ended_of 1 call-set-fog-density-kinds.ps call-set-fog-density-kinds.r) κs) → call-set-fog-density-reads.Learnt κs a r e → answer (code r) e.0.now ≡ host_answer (set_fog_density a.1.0) a.0.now)
 unfolding host_answer
 call_set_fog_density_anchored κs a = (tt, λ r e h. h)
 
 pub call_set_ambient_anchored : (κs : Lfts 1) (a : Dens κs call-set-ambient-kinds.ps)
     → call-set-ambient-reads.Asked κs a
-    × ((r : ℕ) (e : AtExit (ended_of 1 call-set-ambient-kinds.ps call-set-ambient-kinds.r) κs) → call-set-ambient-reads.Learnt κs a r e → answer r e.0.now ≡ host_answer (set_ambient a.1.0) a.0.now)
+    × ((r : Result (Unit {0}) Refusal) (e : AtExit (ended_of 1 call-set-ambient-kinds.ps call-set-ambient-kinds.r) κs) → call-set-ambient-reads.Learnt κs a r e → answer (code r) e.0.now ≡ host_answer (set_ambient a.1.0) a.0.now)
 unfolding host_answer
 call_set_ambient_anchored κs a = (tt, λ r e h. h)
 
 pub call_set_texture_mask_anchored : (κs : Lfts 1) (a : Dens κs call-set-texture-mask-kinds.ps)
     → call-set-texture-mask-reads.Asked κs a
-    × ((r : ℕ) (e : AtExit (ended_of 1 call-set-texture-mask-kinds.ps call-set-texture-mask-kinds.r) κs) → call-set-texture-mask-reads.Learnt κs a r e → answer r e.0.now ≡ host_answer (set_texture_mask a.1.0) a.0.now)
+    × ((r : Result (Unit {0}) Refusal) (e : AtExit (ended_of 1 call-set-texture-mask-kinds.ps call-set-texture-mask-kinds.r) κs) → call-set-texture-mask-reads.Learnt κs a r e → answer (code r) e.0.now ≡ host_answer (set_texture_mask a.1.0) a.0.now)
 unfolding host_answer
 call_set_texture_mask_anchored κs a = (tt, λ r e h. h)
 
 pub call_mark_anchored : (κs : Lfts 1) (a : Dens κs call-mark-kinds.ps)
     → call-mark-reads.Asked κs a
-    × ((r : ℕ) (e : AtExit (ended_of 1 call-mark-kinds.ps call-mark-kinds.r) κs) → call-mark-reads.Learnt κs a r e → answer r e.0.now ≡ host_answer (mark a.1.0) a.0.now)
+    × ((r : Result (Unit {0}) Refusal) (e : AtExit (ended_of 1 call-mark-kinds.ps call-mark-kinds.r) κs) → call-mark-reads.Learnt κs a r e → answer (code r) e.0.now ≡ host_answer (mark a.1.0) a.0.now)
 unfolding host_answer
 call_mark_anchored κs a = (tt, λ r e h. h)
 
-pub call_refresh_anchored : (κs : Lfts 3) (a : Dens κs call-refresh-kinds.ps)
+pub call_refresh_anchored : (κs : Lfts 2) (a : Dens κs call-refresh-kinds.ps)
     → call-refresh-reads.Asked κs a
-    × ((r : ℕ) (e : AtExit (ended_of 3 call-refresh-kinds.ps call-refresh-kinds.r) κs) → call-refresh-reads.Learnt κs a r e
-    → answer r (left e.0.now e.1.1.1.1.1.1.1.1.1.0.now e.1.1.1.1.1.1.1.1.1.1.0.now)
-    ≡ ours.by_host a.0.now (key_of a.1.0 a.1.1.0 a.1.1.1.0 a.1.1.1.1.0 a.1.1.1.1.1.0 a.1.1.1.1.1.1.0 a.1.1.1.1.1.1.1.0 a.1.1.1.1.1.1.1.1.0) a.1.1.1.1.1.1.1.1.1.0.now a.1.1.1.1.1.1.1.1.1.1.0.now)
+    × ((r : Result ℕ Refusal) (e : AtExit (ended_of 2 call-refresh-kinds.ps call-refresh-kinds.r) κs) → call-refresh-reads.Learnt κs a r e
+    → (out : ℕ) → answer (code r) (left e.0.now e.1.1.0.now (value_or out r)) ≡ ours.by_host a.0.now a.1.0 a.1.1.0.now out)
 call_refresh_anchored κs a = (tt, λ r e h. h)
 
 -- ---- what the C names call

@@ -9,6 +9,7 @@ use lib.Dec.{eqb}
 use lib.Ieee.{Float}
 use lib.ListN.{length}
 use borrow.Author.Tests.{eqb-true}
+use Rattle.std.specs.Prelude.{Result, Ok, Err}
 use Rattle.ff_state.specs.Valid.{Valid}
 use Rattle.sections.specs.declared.sections.Section.TheVariants.{Lights}
 use Rattle.ff_state.specs.declared.state.FfState.{FfState}
@@ -20,29 +21,27 @@ use Rattle.packing_agreement.proofs.Agreement.{inputs_agree}
 use Rattle.calls.specs.Answer.{or_next, length_number}
 use Rattle.refresh.specs.Answer.{refresh_answer, refresh_number}
 use Rattle.refresh.specs.Mirror.{refresh_by, refresh_mirror}
-use Rattle.refresh.specs.declared.answer.RefreshAnswer.{RefreshAnswer}
-use Rattle.refresh.specs.declared.answer.RefreshAnswer.TheVariants.{Accepted, WrongLength, HasRhw, WrongMask}
+use Rattle.refresh.specs.declared.answer.RefreshError.{RefreshError}
+use Rattle.refresh.specs.declared.answer.RefreshError.TheVariants.{WrongLength, HasRhw, WrongMask}
 use Rattle.refresh.proofs.Answers.{number_is}
 use Rattle.refresh_calls.specs.Mirror.{ff_refresh_number}
 use Rattle.trace.specs.Step.{refresh_refusal}
 
-by_answer : (a : RefreshAnswer) (s : FfState) (k : FfVsKey) (m : List Float) → (refresh_by a s k m).result.answer ≡ a
+by_answer : (a : Result Unit RefreshError) (s : FfState) (k : FfVsKey) (m : List Float) → (refresh_by a s k m).result.answer ≡ a
 unfolding refresh_by
-by_answer Accepted s k m = refl
-by_answer WrongLength s k m = refl
-by_answer HasRhw s k m = refl
-by_answer WrongMask s k m = refl
+by_answer (Ok u) s k m = refl
+by_answer (Err e) s k m = refl
 
 answer_is : (s : FfState) (k : FfVsKey) (m : List Float) → (refresh_mirror s k m).result.answer ≡ refresh_answer s k (length m)
 unfolding refresh_mirror
 answer_is s k m = by_answer (refresh_answer s k (length m)) s k m
 
-pub number_accepted : (a : RefreshAnswer) → refresh_number a ≡ 0 → a ≡ Accepted
+pub number_accepted : (a : Result Unit RefreshError) → refresh_number a ≡ 0 → a ≡ Ok tt
 unfolding refresh_number
-number_accepted Accepted e = refl
-number_accepted WrongLength e = absurd (omega arith)
-number_accepted HasRhw e = absurd (omega arith)
-number_accepted WrongMask e = absurd (omega arith)
+number_accepted (Ok u) e = refl
+number_accepted (Err WrongLength) e = absurd (omega arith)
+number_accepted (Err HasRhw) e = absurd (omega arith)
+number_accepted (Err WrongMask) e = absurd (omega arith)
 
 module _ {s : FfState} {a : AbstractState} (v : Valid s) (g : Agrees s a) (k : FfVsKey) where
   pub answer_number : (n : ℕ) → refresh_number (refresh_answer s k n) ≡ refresh_refusal a k (eqb n 4460)

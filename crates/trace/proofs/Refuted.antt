@@ -39,7 +39,7 @@ use Rattle.ff_state.specs.Operate.{operate}
 use Rattle.agreement.proofs.Fresh.{fresh_valid}
 use Rattle.refresh.specs.Answer.{refresh_answer}
 use Rattle.refresh.specs.Mirror.{RefreshOutcome, refreshed, refresh_mirror}
-use Rattle.refresh.specs.declared.answer.RefreshAnswer.TheVariants.{Accepted}
+use Rattle.std.specs.Prelude.{Ok}
 use Rattle.refresh.proofs.Laws as Laws
 use Rattle.calls.specs.Answer.{Answer, answer}
 use Rattle.refresh_calls.specs.Written.{mirror_floats}
@@ -271,7 +271,7 @@ module _ (m : List Float) (long : length m ≡ 4460) where
   )
 
   -- the second time not all is dirty
-  first-answer : refresh_answer fresh_state key (length m) ≡ Accepted
+  first-answer : refresh_answer fresh_state key (length m) ≡ Ok tt
   unfolding refresh_answer mask_accepted
   first-answer = rw (eq-eqb (length m) 4460 long)
 

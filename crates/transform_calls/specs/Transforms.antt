@@ -2,11 +2,12 @@
 use Rattle.std.specs.Prelude.{ℕ, List}
 use Rattle.codec.specs.Matrix.{matrix_at, matrix_bytes}
 use Rattle.ff_state.specs.Transforms.{set_transform, multiply_transform, transform_of, transform_number, transform_read_number, transform_read_matrix, world_palette_used, world_view_projection}
-use Rattle.ff_state.specs.declared.transforms.TransformChanged.{TransformChanged}
+use Rattle.ff_state.specs.Changed.{Changed}
+use Rattle.ff_state.specs.declared.transforms.UnknownState.{UnknownState}
 use Rattle.calls.specs.Answer.{Answer, matrix_length}
 use Rattle.calls.specs.Call.{Called, called, changing, reading, none}
 
-abbrev pub transform_call : TransformChanged → Called
+abbrev pub transform_call : Changed UnknownState → Called
 transform_call c = called (transform_number c.answer) c.state
 
 abbrev pub ff_set_transform : List ℕ → ℕ → List ℕ → Answer (List ℕ)

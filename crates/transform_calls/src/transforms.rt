@@ -1,99 +1,62 @@
 // Calls on transforms. An unknown state is refused 1, before the length of a slice.
-ghost use Rattle.std.specs.Prelude.{◌≡◌};
+ghost use Rattle.std.specs.Prelude.{◌≡◌, ℕ};
 ghost use Rattle.calls.specs.Answer.{answer};
+ghost use Rattle.calls.specs.Refusal.{code, value_or};
 ghost use Rattle.transform_calls.specs.Transforms.{ff_set_transform, ff_multiply_transform, ff_transform, ff_world_palette_used, ff_world_view_projection};
 
-use calls::put_state;
-use codec::{matrix_at, put_matrix};
-use ff_state::{Slot, TransformRead, slot_of};
-use image::state_of;
-use image_reasons::image_refused;
+use calls::{Refusal, of_length, put_state, read_state};
+use codec::Stored;
+use d3d9_types::D3DMATRIX;
+use ff_state::{UnknownState, slot_of};
 
 const MATRIX_BYTES: usize = 64;
 
-// The number of a set, which is a multiply's too.
-fn change_code(image: &[u8], state: u32, matrix: &[u8]) -> u32
-    ensures { result ≡ (ff_set_transform image.now state matrix.now).code }
+pub fn set_transform(image: &mut [u8], state: u32, matrix: &[u8]) -> Result<(), Refusal>
+    ensures { answer (code result) image.new ≡ ff_set_transform image.old state matrix.now }
 {
-    if image_refused(image) {
-        return 9;
-    }
-    let slot = slot_of(state);
-    let Slot::At(_) = slot else {
-        return 1;
-    };
-    if matrix.len() != MATRIX_BYTES {
-        return 4;
-    }
-    0
+    let s = read_state(image)?;
+    slot_of(state).ok_or(UnknownState)?;
+    of_length(matrix, MATRIX_BYTES)?;
+    put_state(image, s.set_transform(state, D3DMATRIX::read(matrix, 0))?);
+    Ok(())
 }
 
-pub fn set_transform(image: &mut [u8], state: u32, matrix: &[u8]) -> u32
-    ensures { answer result image.new ≡ ff_set_transform image.old state matrix.now }
+// The lines of a set, but for the call: a closure for it would need a contract of its own, and be no plainer.
+pub fn multiply_transform(image: &mut [u8], state: u32, matrix: &[u8]) -> Result<(), Refusal>
+    ensures { answer (code result) image.new ≡ ff_multiply_transform image.old state matrix.now }
 {
-    let code = change_code(image, state, matrix);
-    if code != 0 {
-        return code;
-    }
-    let s = state_of(image);
-    let c = s.set_transform(state, matrix_at(matrix, 0));
-    put_state(image, c.state);
-    0
+    let s = read_state(image)?;
+    slot_of(state).ok_or(UnknownState)?;
+    of_length(matrix, MATRIX_BYTES)?;
+    put_state(
+        image,
+        s.multiply_transform(state, D3DMATRIX::read(matrix, 0))?,
+    );
+    Ok(())
 }
 
-pub fn multiply_transform(image: &mut [u8], state: u32, matrix: &[u8]) -> u32
-    ensures { answer result image.new ≡ ff_multiply_transform image.old state matrix.now }
+pub fn transform(image: &[u8], state: u32, out: &mut [u8]) -> Result<(), Refusal>
+    ensures { answer (code result) out.new ≡ ff_transform image.now state out.old }
 {
-    let code = change_code(image, state, matrix);
-    if code != 0 {
-        return code;
-    }
-    let s = state_of(image);
-    let c = s.multiply_transform(state, matrix_at(matrix, 0));
-    put_state(image, c.state);
-    0
+    let s = read_state(image)?;
+    let m = s.transform(state)?;
+    of_length(out, MATRIX_BYTES)?;
+    m.put(out, 0);
+    Ok(())
 }
 
-pub fn transform(image: &[u8], state: u32, out: &mut [u8]) -> u32
-    ensures { answer result out.new ≡ ff_transform image.now state out.old }
+pub fn world_palette_used(image: &[u8]) -> Result<u32, Refusal>
+    ensures { (out : ℕ) → answer (code result) (value_or out result) ≡ ff_world_palette_used image.now out }
 {
-    if image_refused(image) {
-        return 9;
-    }
-    let s = state_of(image);
-    let read = s.transform(state);
-    let TransformRead::Matrix(m) = read else {
-        return 1;
-    };
-    if out.len() != MATRIX_BYTES {
-        return 4;
-    }
-    put_matrix(out, 0, m);
-    0
+    let s = read_state(image)?;
+    Ok(s.world_palette_used())
 }
 
-pub fn world_palette_used(image: &[u8], out: &mut u32) -> u32
-    ensures { answer result out.new ≡ ff_world_palette_used image.now out.old }
+pub fn world_view_projection(image: &[u8], out: &mut [u8]) -> Result<(), Refusal>
+    ensures { answer (code result) out.new ≡ ff_world_view_projection image.now out.old }
 {
-    if image_refused(image) {
-        return 9;
-    }
-    let s = state_of(image);
-    *out = s.world_palette_used();
-    0
-}
-
-pub fn world_view_projection(image: &[u8], out: &mut [u8]) -> u32
-    ensures { answer result out.new ≡ ff_world_view_projection image.now out.old }
-{
-    if image_refused(image) {
-        return 9;
-    }
-    if out.len() != MATRIX_BYTES {
-        return 4;
-    }
-    let s = state_of(image);
-    let m = s.world_view_projection();
-    put_matrix(out, 0, m);
-    0
+    let s = read_state(image)?;
+    of_length(out, MATRIX_BYTES)?;
+    s.world_view_projection().put(out, 0);
+    Ok(())
 }

@@ -1,14 +1,13 @@
--- One bit of a word: what `with_bit` is in closed form, that it stays in its width, and which bits it and an or have. Each law is once over the bit.
--- Assumes nothing.
-use Prim.Native.Nat.{ℕ, zero, suc, ◌+◌, ◌*◌, ◌/◌, ◌%◌, ◌^◌, ◌<◌, ◌≤◌, max, min}
-use native.Mathlib.Nat.{one-mul, pow-suc, div-one, mul_assoc, div-div-eq-div-mul, pow-succ', le_of_suc-le-suc, zero-lt-suc, max-le, min-le_left, zero-div}
+-- One bit of a word: `with_bit` by an or and an and, that it stays in its width, and which bits it, an or and an and have. Each law is once over the bit.
+use Prim.Native.Nat.{ℕ, zero, suc, ◌+◌, ◌-◌, ◌*◌, ◌/◌, ◌%◌, ◌^◌, ◌<◌, ◌≤◌, max, min}
+use native.Mathlib.Nat.{one-mul, pow-suc, div-one, div-div-eq-div-mul, mod-eq_of_lt, pow-succ', le_of_suc-le-suc, max-le, min-le_left, zero-div}
 use native.Mathlib.Omega.{arith}
 use mathlib.Core.Path.{◌≡◌, refl, sym, ap, ap₂, ◌∙◌}
 use mathlib.Core.Bool.{Bool, true, false, cond, ◌&&◌, ◌||◌}
 use lib.Dec.{lit<, eqb, eqb-zero-suc, eqb-suc-zero, eqb-suc-suc}
-use lib.Arith.{mod-mul}
-use lib.Bits.{bit_or, bit_and, or_step, and_step}
+use lib.Bits.{bit_or, bit_and, or_step, and_step, or_zero_r}
 use lib.Pow.{pow_pos, shl_exact}
+use Rattle.std.proofs.lemmas.Nat.{and_mask, pow_below}
 use mir.Val.{bool_byte}
 use Rattle.words.specs.Bits.{has_bit, with_bit}
 
@@ -16,32 +15,40 @@ pub flag_is : (b : Bool) → bool_byte b ≡ cond b 1 0
 flag_is true = refl
 flag_is false = refl
 
-pub flag_small : (b : Bool) → bool_byte b ≤ 1
-flag_small true = omega arith
-flag_small false = omega arith
-
 halves : (w i : ℕ) → w / 2 ^ suc i ≡ w / 2 / 2 ^ i
 halves w i = ap (λ (n : ℕ). w / n) (pow-succ' 2 i) ∙ sym (div-div-eq-div-mul w 2 (2 ^ i))
-
-rests : (w i : ℕ) → w % 2 ^ suc i ≡ (w / 2 % 2 ^ i) * 2 + w % 2
-rests w i = ap (λ (n : ℕ). w % n) (pow-suc 2 i) ∙ mod-mul w {m = 2 ^ i} {c = 2} (pow_pos i) (zero-lt-suc 1)
 
 -- the code's `1 << i` at 32 bits
 pub one_shl : (i : ℕ) → i < 32 → (1 * 2 ^ i) % 2 ^ 32 ≡ 2 ^ i
 one_shl i h = shl_exact {a = 1} 1 i 32 (lit< tt) (omega arith) ∙ one-mul (2 ^ i)
 
--- the code's form
-pub with_bit_is : (w i : ℕ) (b : Bool) → (w / 2 ^ i / 2 * 2 + bool_byte b) * 2 ^ i + w % 2 ^ i ≡ with_bit w i b
+-- `1 << i` at 8 bits
+pub bit_shl : (i : ℕ) → i < 8 → (1 * 2 ^ i) % 256 ≡ 2 ^ i
+bit_shl i h = shl_exact {a = 1} 1 i 8 (lit< tt) (omega arith) ∙ one-mul (2 ^ i)
+
+-- the code's two forms
+pub set_bit : (w i : ℕ) → bit_or w (2 ^ i) ≡ with_bit w i true
 unfolding with_bit
-with_bit_is w zero b =
-    rw (flag_is b)
-    (let p : (w / 1 / 2 * 2 + cond b 1 0) * 1 + w % 1 ≡ w / 2 * 2 + cond b 1 0 = omega arith in p)
-with_bit_is w (suc i) b =
-    let h = w / 2 / 2 ^ i / 2 * 2 + bool_byte b in
-    ap₂ (λ (x y : ℕ). (x / 2 * 2 + bool_byte b) * 2 ^ suc i + y) (halves w i) (rests w i)
-    ∙ (let p : h * 2 ^ suc i ≡ h * 2 ^ i * 2 = ap (λ (n : ℕ). h * n) (pow-suc 2 i) ∙ sym (mul_assoc h (2 ^ i) 2) in
-    let q : h * 2 ^ suc i + (w / 2 % 2 ^ i * 2 + w % 2) ≡ (h * 2 ^ i + w / 2 % 2 ^ i) * 2 + w % 2 = omega arith in q)
-    ∙ ap (λ (n : ℕ). n * 2 + w % 2) (with_bit_is (w / 2) i b)
+set_bit w zero = rw (or_step w 1, or_zero_r (w / 2)) (omega arith)
+set_bit w (suc i) =
+    let p : 2 ^ suc i / 2 ≡ 2 ^ i = omega (arith, pow-suc 2 i) in
+    let q : 2 ^ suc i % 2 ≡ 0 = omega (arith, pow-suc 2 i) in
+    rw (or_step w (2 ^ suc i), p, q, set_bit (w / 2) i) (omega arith)
+
+pub clear_bit : (n w i : ℕ) → i < n → w < 2 ^ n → bit_and w (2 ^ n - 1 - 2 ^ i) ≡ with_bit w i false
+unfolding with_bit
+clear_bit zero w i l h = absurd (omega arith)
+clear_bit (suc n) w zero l h =
+    let k : w / 2 < 2 ^ n = omega (arith, pow-suc 2 n) in
+    let p : (2 ^ suc n - 1 - 1) / 2 ≡ 2 ^ n - 1 = omega (arith, pow-suc 2 n) in
+    let q : (2 ^ suc n - 1 - 1) % 2 ≡ 0 = omega (arith, pow-suc 2 n, pow_pos n) in
+    rw (and_step w (2 ^ suc n - 1 - 1), p, q, and_mask (w / 2) n, mod-eq_of_lt k) (omega arith)
+clear_bit (suc n) w (suc i) l h =
+    let k : w / 2 < 2 ^ n = omega (arith, pow-suc 2 n) in
+    let f : 2 ^ i < 2 ^ n = pow_below i n (le_of_suc-le-suc l) in
+    let p : (2 ^ suc n - 1 - 2 ^ suc i) / 2 ≡ 2 ^ n - 1 - 2 ^ i = omega (arith, pow-suc 2 n, pow-suc 2 i) in
+    let q : (2 ^ suc n - 1 - 2 ^ suc i) % 2 ≡ 1 = omega (arith, pow-suc 2 n, pow-suc 2 i) in
+    rw (and_step w (2 ^ suc n - 1 - 2 ^ suc i), p, q, clear_bit n (w / 2) i (le_of_suc-le-suc l) k) (omega arith)
 
 pub flag_small_cond : (b : Bool) → cond b 1 0 ≤ 1
 flag_small_cond true = omega arith

@@ -1,20 +1,9 @@
-// One bit of a mask.
+// One bit of a mask. That i is below 8 stands in each contract: a type for it would be made at each call and taken apart again at each
+// shift and each array.
 ghost use Rattle.std.specs.Prelude.{◌≡◌, ◌<◌};
 ghost use Rattle.words.specs.Bits.{has_bit, with_bit};
 
-// Numbers at a wider type: a cast of a field would ask for its range.
-pub fn wide8(x: u8) -> u32
-    ensures { (result ≡ x) × (result < 256) }
-{
-    x as u32
-}
-
-pub fn wide16(x: u16) -> u32
-    ensures { (result ≡ x) × (result < 65536) }
-{
-    x as u32
-}
-
+#[tactic(auto, unfolding(crate::specs::Bits::has_bit))]
 pub fn has_bit(mask: u8, i: u32) -> bool
     requires { i < 8 }
     ensures { result ≡ has_bit mask i }
@@ -27,8 +16,6 @@ pub fn with_bit(mask: u8, i: u32, on: bool) -> u8
     requires { i < 8 }
     ensures { result ≡ with_bit mask i on }
 {
-    let m = mask as u32;
-    let high = ((m >> i) / 2) * 2;
-    let low = m % (1 << i);
-    (((high + on as u32) << i) + low) as u8
+    let bit = 1u8 << i;
+    if on { mask | bit } else { mask & !bit }
 }

@@ -1,19 +1,14 @@
 -- A colour of f32 values comes back from its bytes, and what is read is one.
--- Assumes nothing.
 use Prim.Native.Nat.{ℕ}
 use mathlib.Core.Path.{◌≡◌, ap}
 use mathlib.Core.List.{List}
-use lib.ListN.{length}
 use Rattle.d3d9_types.proofs.Fits.{color_row_fits, row_color_fits}
 use Rattle.d3d9_types.specs.Color.{color_row, row_color, colorFits}
 use Rattle.d3d9_types.specs.declared.color.D3DCOLORVALUE.{D3DCOLORVALUE}
 use Rattle.codec.specs.Color.{color_bytes, color_at}
 use Rattle.codec.proofs.Inside.{Skips, Starts}
-use Rattle.codec.proofs.Laws.Matrix.{length-row_bytes, row_again, row_again_is, row_at_skips, row_at_starts, row_at_fits}
-
-pub length-color_bytes : (c : D3DCOLORVALUE) → length (color_bytes c) ≡ 16
-unfolding color_bytes
-length-color_bytes c = length-row_bytes (color_row c)
+use Rattle.codec.proofs.Laws.Matrix.{row_again, row_again_is, row_at_skips, row_at_starts, row_at_fits}
+pub use Rattle.codec.specs.Sizes.{length-color_bytes}
 
 pub color_at_skips : Skips color_at
 unfolding color_at

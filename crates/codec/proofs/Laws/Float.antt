@@ -1,5 +1,4 @@
 -- A float that is an f32 value comes back from its bytes.
--- Assumes nothing.
 use Prim.Native.Nat.{ℕ}
 use mathlib.Core.Path.{◌≡◌, ap, ◌∙◌}
 use mathlib.Core.List.{List}
@@ -10,6 +9,7 @@ use Rattle.codec.specs.Little.{little_bytes, little_number, number_at}
 use Rattle.codec.specs.Float.{float_bytes, float_at}
 use Rattle.codec.proofs.Laws.Little.{little_number-little_bytes, number_at_skips}
 use Rattle.codec.proofs.Inside.{Skips, Starts}
+pub use Rattle.codec.specs.Sizes.{length-float_bytes}
 
 -- what the bytes of x read as
 abbrev pub again : Float → Float

@@ -1,8 +1,7 @@
 -- A light that fits comes back from its bytes, and what is read from bytes is one.
--- Assumes nothing.
 use Prim.Native.Nat.{ℕ}
 use native.Mathlib.Nat.{add_assoc}
-use mathlib.Core.Path.{◌≡◌, refl, sym, ◌∙◌}
+use mathlib.Core.Path.{◌≡◌, sym, ◌∙◌}
 use mathlib.Core.List.{List, flatten}
 use lib.ListN.{length}
 use Rattle.d3d9_types.specs.Light.{lightFits}
@@ -20,10 +19,7 @@ use Rattle.codec.proofs.Laws.Little.{little_number-little_bytes, number_at_skips
 use Rattle.codec.proofs.Laws.Float.{again, again_is, float_at_skips, float_at_fits}
 use Rattle.codec.proofs.Laws.Color.{color_again, color_again_is, color_at_skips, color_at_fits}
 use Rattle.codec.proofs.Laws.Vector.{vector_again, vector_again_is, vector_at_skips, vector_at_fits}
-
-pub length-light_bytes : (l : D3DLIGHT9) → length (light_bytes l) ≡ 104
-unfolding light_bytes color_bytes row_bytes vector_bytes flatten float_bytes little_bytes
-length-light_bytes l = refl
+pub use Rattle.codec.specs.Sizes.{length-light_bytes}
 
 pub put-light_bytes : (l : D3DLIGHT9) (out : List ℕ) → length out ≡ 104 → put 0 (light_bytes l) out ≡ light_bytes l
 put-light_bytes l out e = put_whole (light_bytes l) out (e ∙ sym (length-light_bytes l))

@@ -1,19 +1,14 @@
 -- Bytes to a number and back, over the width.
--- Assumes nothing.
 use Prim.Native.Nat.{ℕ, zero, suc, ◌+◌, ◌*◌, ◌/◌, ◌%◌, ◌^◌, ◌<◌}
 use native.Mathlib.Nat.{one-le-pow, pow-suc, div-lt_iff_lt-mul}
 use native.Mathlib.Omega.{arith}
 use mathlib.Core.Path.{◌≡◌, refl, ap, ◌∙◌}
 use mathlib.Core.List.{List, [], ◌∷◌}
 use lib.ListN.{length, get_or, take, drop}
-use lib.Seq.{get_or-drop, drop-append-add, take_at}
+use lib.Seq.{get_or-drop, drop-append-add, drop-cons, take_at}
 use Rattle.codec.specs.Little.{little_bytes, little_number, number_at, Bytes}
 use Rattle.codec.proofs.Inside.{Skips, Starts}
-
-pub length-little_bytes : (k n : ℕ) → length (little_bytes k n) ≡ k
-unfolding little_bytes
-length-little_bytes zero n = refl
-length-little_bytes (suc k) n = ap suc (length-little_bytes k (n / 256))
+pub use Rattle.codec.specs.Sizes.{length-little_bytes}
 
 pub little_number-little_bytes : (k n : ℕ) → n < 256 ^ k → little_number (little_bytes k n) ≡ n
 unfolding little_bytes little_number
@@ -38,6 +33,10 @@ unfolding little_number
 number_of_one [] h = absurd (omega arith)
 number_of_one (a ∷ []) h = omega arith
 number_of_one (a ∷ b ∷ t) h = absurd (omega arith)
+
+pub number_at_one : (s : List ℕ) (at : ℕ) → at < length s → get_or s at 0 ≡ number_at 1 s at
+unfolding little_number
+number_at_one s at h = rw (drop-cons s at 0) (omega arith)
 
 pub number_of_two : (t : List ℕ) → length t ≡ 2 → get_or t 0 0 + 0x100 * get_or t 1 0 ≡ little_number t
 unfolding little_number

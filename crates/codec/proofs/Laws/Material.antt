@@ -1,8 +1,7 @@
 -- A material of f32 values comes back from its bytes, and what is read is one.
--- Assumes nothing.
 use Prim.Native.Nat.{ℕ}
 use native.Mathlib.Nat.{add_assoc}
-use mathlib.Core.Path.{◌≡◌, refl, sym, ◌∙◌}
+use mathlib.Core.Path.{◌≡◌, sym, ◌∙◌}
 use mathlib.Core.List.{List, flatten}
 use lib.ListN.{length}
 use Rattle.d3d9_types.specs.Material.{materialFits}
@@ -17,10 +16,7 @@ use Rattle.codec.proofs.Put.{put_whole}
 use Rattle.codec.proofs.Inside.{Skips, Starts}
 use Rattle.codec.proofs.Laws.Float.{again, again_is, float_at_skips, float_at_fits}
 use Rattle.codec.proofs.Laws.Color.{color_again, color_again_is, color_at_skips, color_at_fits}
-
-pub length-material_bytes : (m : D3DMATERIAL9) → length (material_bytes m) ≡ 68
-unfolding material_bytes color_bytes row_bytes flatten float_bytes little_bytes
-length-material_bytes m = refl
+pub use Rattle.codec.specs.Sizes.{length-material_bytes}
 
 pub put-material_bytes : (m : D3DMATERIAL9) (out : List ℕ) → length out ≡ 68 → put 0 (material_bytes m) out ≡ material_bytes m
 put-material_bytes m out e = put_whole (material_bytes m) out (e ∙ sym (length-material_bytes m))

@@ -1,8 +1,7 @@
 -- A row or a matrix of f32 values comes back from its bytes, and what is read is one.
--- Assumes nothing.
 use Prim.Native.Nat.{ℕ}
 use native.Mathlib.Nat.{add_assoc}
-use mathlib.Core.Path.{◌≡◌, refl, sym, ◌∙◌}
+use mathlib.Core.Path.{◌≡◌, sym, ◌∙◌}
 use mathlib.Core.List.{List, flatten}
 use lib.ListN.{length}
 use Rattle.d3d9_types.specs.Matrix.{rowFits, matrixFits}
@@ -15,14 +14,7 @@ use Rattle.codec.specs.Put.{put}
 use Rattle.codec.proofs.Put.{put_whole}
 use Rattle.codec.proofs.Inside.{Skips, Starts}
 use Rattle.codec.proofs.Laws.Float.{again, again_is, float_at_skips, float_at_fits}
-
-pub length-row_bytes : (r : Row) → length (row_bytes r) ≡ 16
-unfolding row_bytes flatten float_bytes little_bytes
-length-row_bytes r = refl
-
-pub length-matrix_bytes : (m : D3DMATRIX) → length (matrix_bytes m) ≡ 64
-unfolding matrix_bytes row_bytes flatten float_bytes little_bytes
-length-matrix_bytes m = refl
+pub use Rattle.codec.specs.Sizes.{length-row_bytes, length-matrix_bytes}
 
 -- put over 64 bytes, nothing of them is left
 pub put-matrix_bytes : (m : D3DMATRIX) (out : List ℕ) → length out ≡ 64 → put 0 (matrix_bytes m) out ≡ matrix_bytes m

@@ -1,10 +1,8 @@
 -- Render states that fit come back from their bytes, and what is read from bytes are such.
--- Assumes nothing.
 use Prim.Native.Nat.{ℕ, ◌+◌}
 use native.Mathlib.Nat.{add_assoc}
-use mathlib.Core.Path.{◌≡◌, refl}
+use mathlib.Core.Path.{◌≡◌}
 use mathlib.Core.List.{List, flatten}
-use lib.ListN.{length}
 use Rattle.d3d9_types.specs.RenderStates.{statesFit}
 use Rattle.d3d9_types.specs.declared.render_states.RenderStates.{RenderStates}
 use Rattle.codec.specs.Little.{little_bytes, little_number, Bytes}
@@ -13,10 +11,7 @@ use Rattle.codec.specs.RenderStates.{states_bytes, states_at}
 use Rattle.codec.proofs.Inside.{Skips, Starts}
 use Rattle.codec.proofs.Laws.Little.{little_number-little_bytes, number_at_skips, number_at_lt}
 use Rattle.codec.proofs.Laws.Float.{again, again_is, float_at_skips, float_at_fits}
-
-pub length-states_bytes : (r : RenderStates) → length (states_bytes r) ≡ 16
-unfolding states_bytes flatten float_bytes little_bytes
-length-states_bytes r = refl
+pub use Rattle.codec.specs.Sizes.{length-states_bytes}
 
 pub states_at_skips : Skips states_at
 unfolding states_at

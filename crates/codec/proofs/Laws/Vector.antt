@@ -1,10 +1,8 @@
 -- A vector of f32 values comes back from its bytes, and what is read is one.
--- Assumes nothing.
 use Prim.Native.Nat.{ℕ}
 use native.Mathlib.Nat.{add_assoc}
-use mathlib.Core.Path.{◌≡◌, refl}
+use mathlib.Core.Path.{◌≡◌}
 use mathlib.Core.List.{List, flatten}
-use lib.ListN.{length}
 use Rattle.d3d9_types.specs.Vector.{vectorFits}
 use Rattle.d3d9_types.specs.declared.vector.D3DVECTOR.{D3DVECTOR}
 use Rattle.codec.specs.Little.{little_bytes}
@@ -12,10 +10,7 @@ use Rattle.codec.specs.Float.{float_bytes, float_at}
 use Rattle.codec.specs.Vector.{vector_bytes, vector_at}
 use Rattle.codec.proofs.Inside.{Skips, Starts}
 use Rattle.codec.proofs.Laws.Float.{again, again_is, float_at_skips, float_at_fits}
-
-pub length-vector_bytes : (v : D3DVECTOR) → length (vector_bytes v) ≡ 12
-unfolding vector_bytes flatten float_bytes little_bytes
-length-vector_bytes v = refl
+pub use Rattle.codec.specs.Sizes.{length-vector_bytes}
 
 pub vector_at_skips : Skips vector_at
 unfolding vector_at

@@ -1,5 +1,4 @@
 -- The three steps give `sqrt_of`: an answer of the first is the root (`sorted`), and what the second finds has the root of `root_of`, so that the third rounds it alike (`exact_rounded`).
--- Assumes nothing.
 use Prim.Native.Nat.{ℕ, zero, suc, ◌+◌, ◌-◌, ◌*◌, ◌^◌, ◌≤◌, ◌<◌}
 use native.Mathlib.Nat.{le_trans, lt_of_lt_of_le, mul-pos, mul-le-mul}
 use native.Mathlib.Omega.{arith}
@@ -12,8 +11,8 @@ use lib.Ieee.Bits.{of_bits-to_bits}
 use lib.Ieee.Positive.{first_pos}
 use Rattle.float32.specs.Root.{floor_root, nearest_root, root_of, sqrt_of, in_units, unsigned}
 use Rattle.float32.specs.Steps.{operand_of, Exact, nearest_of, rounded_root}
-use Rattle.float32.specs.declared.root.Operand.{Operand}
-use Rattle.float32.specs.declared.root.Operand.TheVariants.{Special, Positive}
+use Rattle.std.specs.declared.ops.ControlFlow.{ControlFlow}
+use Rattle.std.specs.declared.ops.ControlFlow.TheVariants.{Break, Continue}
 use Rattle.float32.specs.declared.root.Root.{Root}
 use Rattle.float32.proofs.root.Squares.{IsRoot, root_unique, floor-root, next_square}
 use Rattle.float32.proofs.root.Values.{root_of_value, root_scaled}
@@ -21,9 +20,9 @@ use Rattle.float32.proofs.root.Laws.{shape}
 
 -- ---- the first step
 
-abbrev pub Sorted : Float → Operand → Type 0
-Sorted x (Special y) = y ≡ sqrt_of x
-Sorted x (Positive b) = (of_bits binary32 b ≡ x) × T (unsigned x)
+abbrev pub Sorted : Float → ControlFlow Float ℕ → Type 0
+Sorted x (Break y) = y ≡ sqrt_of x
+Sorted x (Continue b) = (of_bits binary32 b ≡ x) × T (unsigned x)
 
 pub sorted : (x : Float) → T (fits binary32 x) → Sorted x (operand_of x)
 unfolding operand_of sqrt_of

@@ -1,39 +1,35 @@
--- Number 0 means that the refresh is accepted, so the mirror has its length and the dirty sections are written; any other number is a refusal, which
--- leaves state, mirror and lent number as they were.
-use Rattle.std.proofs.Common.{◌≡◌, ◌∙◌, ℕ, List, Float, sym, ap, length}
+-- A mirror of another length is refused before all; any other refusal leaves state, mirror and lent number as they were.
+use Rattle.std.proofs.Common.{◌≡◌, ◌∙◌, ℕ, List, Float, Err, sym, ap, length}
+use mathlib.Core.Path.{ap₂}
 use borrow.Author.Tests.{ne_eqb}
-use Rattle.ff_state.specs.Dirty.{take_ff_vs_dirty}
 use Rattle.ff_state.specs.declared.state.FfState.{FfState}
-use Rattle.sections.specs.Sections.{sections}
 use Rattle.sections.specs.declared.key.FfVsKey.{FfVsKey}
 use Rattle.refresh.specs.Answer.{refresh_answer, refresh_number}
-use Rattle.refresh.specs.Written.{written}
-use Rattle.refresh_parts.specs.Mirror.{left, lent_refresh}
-use Rattle.refresh_parts.proofs.Numbers.{accepted_long, accepted_with, refused_is}
+use Rattle.refresh.specs.Mirror.{refresh_by, refresh_mirror}
+use Rattle.refresh.specs.declared.answer.RefreshError.{RefreshError}
+use Rattle.refresh.specs.declared.answer.RefreshError.TheVariants.{WrongLength, HasRhw, WrongMask}
+use Rattle.refresh_parts.specs.Mirror.{left, told, lent_refresh}
 use Rattle.lent_refresh.proofs.mirror.refresh.Goals as goal
 
--- the bits were taken of a state that is the old one
-accepted : (s z y : FfState) (k : FfVsKey) (m w : List Float) (out bits : ℕ) → z ≡ s → refresh_number (refresh_answer s k (length m)) ≡ 0
-    → bits ≡ (take_ff_vs_dirty z).bits → y ≡ (take_ff_vs_dirty z).state → w ≡ written sections (take_ff_vs_dirty z).bits z k m → left 0 y w bits ≡ lent_refresh s k m out
-accepted s z y k m w out bits same zero b t is =
-    let taken : y ≡ (take_ff_vs_dirty s).state = cc in
-    let wrote : w ≡ written sections (take_ff_vs_dirty s).bits s k m = cc in
-    let told : bits ≡ (take_ff_vs_dirty s).bits = cc in
-    ap (λ (x : FfState). left 0 x w bits) taken ∙ accepted_with s k m out w bits zero wrote told
+refused : (s : FfState) (k : FfVsKey) (m : List Float) (out : ℕ) (e : RefreshError) → refresh_answer s k (length m) ≡ Err e
+    → left (refresh_number (Err e)) s m out ≡ lent_refresh s k m out
+unfolding lent_refresh refresh_mirror refresh_by told
+refused s k m out WrongLength is = rw is
+refused s k m out HasRhw is = rw is
+refused s k m out WrongMask is = rw is
 
-pub write_dirty-requires : goal.write_dirty-requires
-write_dirty-requires c = accepted_long c.args.s.now c.args.key _ (sym c.refresh_number-number.ensures.0 ∙ c.if-number-eq0.true)
-
-pub returns-then-number-eq0 : goal.returns-then-number-eq0
-returns-then-number-eq0 c =
+pub returns-in_default : goal.returns-in_default
+unfolding refresh_answer
+returns-in_default c =
     let a = c.args in
-    let before = c.refresh_number-number in
-    let done = c.write_dirty.ensures in
-    accepted a.s.now before.new.s _ a.key a.mirror.now _ a.out.now _ before.ensures.1 (sym before.ensures.0 ∙ c.if-number-eq0.true) done.0 done.1 done.2
+    ap (λ (n : ℕ). left n a.s.now a.mirror.now a.out.now) c.number.ensures
+    ∙ refused a.s.now a.key a.mirror.now a.out.now WrongLength (rw (ne_eqb _ _ c.in_default.ensures.cases))
 
-pub returns : goal.returns
-returns c =
+pub returns-in-Err : goal.returns-in-Err
+returns-in-Err c =
     let a = c.args in
-    let before = c.refresh_number-number in
-    ap (λ (x : FfState). left before.result x a.mirror.now a.out.now) before.ensures.1
-    ∙ refused_is a.s.now a.key a.mirror.now a.out.now before.result before.ensures.0 (ne_eqb _ _ c.if-number-eq0.false)
+    let whole = c.in-Some.ensures.cases in
+    let long : length a.mirror.now ≡ 4460 = whole.long in
+    ap₂ (λ (n : ℕ) (m : List Float). left n a.s.now m a.out.now) c.number-in-Err.ensures whole.same
+    ∙ refused a.s.now a.key a.mirror.now a.out.now c.in-Err.error
+    (ap (λ (n : ℕ). refresh_answer a.s.now a.key n) long ∙ sym c.accepts.ensures ∙ c.in-Err.is)

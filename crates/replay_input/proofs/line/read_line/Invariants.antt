@@ -1,9 +1,10 @@
--- The invariant bounds the words passed; the measure is what is left of them.
-use Rattle.std.proofs.Common.{◌-◌, ◌≤◌}
+-- Nine bytes are passed for each word; the iterator has the rest.
+use Rattle.std.proofs.Common.{◌≡◌, ◌+◌, ◌*◌, ◌≤◌, length}
 use Rattle.replay_input.proofs.line.read_line.Given as goal
 
-abbrev pub invariant-loop-i : goal.invariant-loop-i
-invariant-loop-i l = l.i ≤ l.n
-
-abbrev pub decreases-loop-i : goal.decreases-loop-i
-decreases-loop-i l = l.n - l.i
+abbrev pub invariant-loop-part : goal.invariant-loop-part
+invariant-loop-part l = record {
+  room : length l.words.items ≤ 32;
+  size : l.part-iterator.size ≡ 9;
+  passed : length l.text ≡ 9 * length l.words.items + length l.part-iterator.rest.now + 1;
+}
