@@ -5,5 +5,5 @@
 use std::io::Result;
 
 fn main(rt: HostRuntime) -> Result<()> {
-    replay_lines::replay(rt.alloc(), rt.stdin(), rt.stdout())
+    replay_lines::replay(rt.alloc(), &mut rt.stdin(), &mut rt.stdout())
 }

@@ -8,7 +8,7 @@ use std::io::{BufReader, BufWriter, Read, Result, Write};
 
 // A loop has to end, and nothing says that the input does: so the turns are counted, up to a number
 // that no run reaches.
-pub fn replay<R: Read + Drop, W: Write + Drop>(alloc: Global, from: R, to: W) -> Result<()> {
+pub fn replay<R: Read, W: Write>(alloc: Global, from: &mut R, to: &mut W) -> Result<()> {
     let mut from = BufReader::new(alloc, from)?;
     let mut to = BufWriter::with_capacity(alloc, 65_536, to)?;
     let mut machine = Machine::new();
