@@ -8,9 +8,6 @@ use std::thread;
 use crate::bends::{BENDS, Named};
 use crate::bent;
 
-/// A bend's borders run on one thread: two bends at a time.
-const THREADS: usize = 2;
-
 /// Enough for every bend, and little enough for a second each.
 const COUNT: &str = "200000";
 
@@ -48,6 +45,11 @@ fn caught(bent: &Named) -> Result<(), String> {
     Ok(())
 }
 
+/// A bend's borders run on one thread: as many bends at a time as there are processors.
+fn at_a_time() -> usize {
+    thread::available_parallelism().map_or(2, usize::from)
+}
+
 /// How many bends were caught, each by all of its commands, or what went wrong.
 pub fn self_test() -> Result<usize, String> {
     if !bent::straight() {
@@ -68,19 +70,17 @@ pub fn self_test() -> Result<usize, String> {
     }
     let next = AtomicUsize::new(0);
     thread::scope(|scope| {
-        let workers = [(); THREADS].map(|()| {
-            scope.spawn(|| {
-                while let Some(bent) = BENDS.get(next.fetch_add(1, Ordering::Relaxed)) {
-                    caught(bent)?;
-                    println!("{:<28}caught by {}", bent.name, bent.commands.join(", "));
-                }
-                Ok(BENDS.len())
-            })
-        });
+        let work = || -> Result<(), String> {
+            while let Some(bent) = BENDS.get(next.fetch_add(1, Ordering::Relaxed)) {
+                caught(bent)?;
+                println!("{:<28}caught by {}", bent.name, bent.commands.join(", "));
+            }
+            Ok(())
+        };
+        let workers: Vec<_> = (0..at_a_time()).map(|_| scope.spawn(work)).collect();
         workers
-            .map(|worker| worker.join().expect("no worker panics"))
             .into_iter()
-            .collect::<Result<Vec<usize>, String>>()
-            .map(|_| BENDS.len())
+            .try_for_each(|worker| worker.join().expect("no worker panics"))
+            .map(|()| BENDS.len())
     })
 }
