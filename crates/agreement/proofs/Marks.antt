@@ -34,7 +34,7 @@ use Rattle.ff_state.specs.Transforms.{slot_of, InRange, place_sections, place_bi
 use Rattle.ff_state.specs.Transforms as Transforms
 use Rattle.ff_state.specs.Operate.{operate}
 use Rattle.ff_state.specs.Valid.{Valid}
-use Rattle.ff_state.specs.Changed.{Changed, refused}
+use Rattle.ff_state.specs.Changed.{Changed}
 use Rattle.ff_state.specs.declared.lights.TableFull.{TableFull}
 use Rattle.ff_state.specs.declared.state.FfState.{FfState}
 use Rattle.ff_state.specs.declared.transforms.Place.{Place}

@@ -12,7 +12,7 @@ use lib.Seq.{length-take-le, take-set-lt, drop-set-lt, get_or-take}
 use Rattle.d3d9_types.specs.Light.{lightFits}
 use Rattle.light_table.specs.Entry.{zero_entry}
 use Rattle.ff_state.specs.State.{with_overflow_lights, with_overflow_count}
-use Rattle.light_table.specs.Overflow.{place, used_count, find_entry, ascending, inserted_at}
+use Rattle.light_table.specs.Overflow.{place, used_count, ascending, inserted_at}
 use Rattle.ff_state.specs.Overflow.{used}
 use Rattle.ff_state.specs.Lights.{found, stored_entry}
 use Rattle.ff_state.specs.Valid.{Valid, OverflowValid}

@@ -9,7 +9,7 @@ use Rattle.d3d9_model.specs.Operations.{Operation, set_transform, multiply_trans
 use Rattle.ff_state.specs.Dirty.{mark_ff_vs_dirty, mark_number}
 use Rattle.ff_state.specs.Lights.{has_room, set_light_at, set_light_enabled_at, light_number}
 use Rattle.ff_state.specs.Transforms as Transforms
-use Rattle.ff_state.specs.Changed.{Changed, refused}
+use Rattle.ff_state.specs.Changed.{Changed}
 use Rattle.ff_state.specs.declared.lights.TableFull.{TableFull}
 use Rattle.ff_state.specs.declared.state.FfState.{FfState}
 use Rattle.ff_state.specs.declared.transforms.Place.{Place}

@@ -1,7 +1,6 @@
 // What a key is made from, read of lights at any index: below 8 a slot, from 8 on an entry of the table.
 use ff_lights::{set_light_enabled_at, vs_source_light_inputs};
 use ff_state::FfState;
-use std::num::wrapping_add_u32;
 use words::with_bit;
 
 fn enable_one(s: FfState, index: u32) -> FfState {
@@ -29,7 +28,7 @@ pub extern "C" fn bench_vs_source_light_inputs(n: u32, index: u32) -> u32 {
     let mut sum = 0u32;
     for i in 0..n {
         s = switched(s, i);
-        sum = wrapping_add_u32(sum, vs_source_light_inputs(s));
+        sum = sum.wrapping_add(vs_source_light_inputs(s));
     }
     sum
 }

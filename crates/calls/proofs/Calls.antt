@@ -11,19 +11,8 @@ use Rattle.image_reasons.specs.Length.{image_length}
 use Rattle.image_reasons.specs.Reasons.{refused}
 use Rattle.image_reasons.proofs.Accepted as Accepted
 use Rattle.image.specs.Read.{state_of, read_number}
-use Rattle.codec.specs.Put.{put}
-use Rattle.codec.specs.Light.{light_bytes}
-use Rattle.codec.specs.Material.{material_bytes}
-use Rattle.codec.specs.Matrix.{matrix_bytes}
-use Rattle.codec.proofs.Laws.Light.{put-light_bytes}
-use Rattle.codec.proofs.Laws.Material.{put-material_bytes}
-use Rattle.codec.proofs.Laws.Matrix.{put-matrix_bytes}
-use Rattle.d3d9_types.specs.declared.light.D3DLIGHT9.{D3DLIGHT9}
-use Rattle.d3d9_types.specs.declared.material.D3DMATERIAL9.{D3DMATERIAL9}
-use Rattle.d3d9_types.specs.declared.matrix.D3DMATRIX.{D3DMATRIX}
 use Rattle.calls.specs.Answer.{answer, or_next}
 use Rattle.calls.specs.Call.{call_code, reading}
-use Rattle.calls.proofs.Answers.{answered_code, next_rest}
 use Rattle.calls.proofs.Answers as Answers
 
 -- what is not refused has an image's length
@@ -32,16 +21,6 @@ image_long image h = (Accepted.accepted image h).long
 
 pub image_fits : (image : List ℕ) → refused image ≡ false → image_length ≤ length image
 image_fits image h = omega (arith, image_long image h)
-
--- an item is all of a slice that is as long as it
-pub material_whole : (m : D3DMATERIAL9) (out : List ℕ) → length out ≡ 68 → put 0 (material_bytes m) out ≡ material_bytes m
-material_whole = put-material_bytes
-
-pub matrix_whole : (m : D3DMATRIX) (out : List ℕ) → length out ≡ 64 → put 0 (matrix_bytes m) out ≡ matrix_bytes m
-matrix_whole = put-matrix_bytes
-
-pub light_whole : (l : D3DLIGHT9) (out : List ℕ) → length out ≡ 104 → put 0 (light_bytes l) out ≡ light_bytes l
-light_whole = put-light_bytes
 
 module _ (own : FfState → ℕ) (len : ℕ) (image : List ℕ) where
   pub code_nine : refused image ≡ true → call_code own len image ≡ 9

@@ -17,7 +17,8 @@ pub fn read_state(image: &[u8]) -> Result<FfState, Refusal>
     Ok(read_image(image)?)
 }
 
-// The state over an image that was read. Only crates of this repository call it, after `read_state`.
+// The state over an image that was read. Only crates of this repository call it, after `read_state`: the image's length was tested there, and
+// nothing else is refused here.
 pub fn put_state(image: &mut [u8], s: FfState)
     requires { length image.old ≡ image_length }
     ensures { image.new ≡ image_bytes s }

@@ -1,10 +1,14 @@
 // Why a call is refused, with document 01's number for each.
-ghost use Rattle.std.specs.Prelude.{◌≡◌};
+ghost use Rattle.std.specs.Prelude.{◌≡◌, Err, Some};
+ghost use Rattle.packing.specs.Pack.{pack_number};
+ghost use Rattle.refresh.specs.Answer.{refresh_number};
 ghost use Rattle.calls.specs.declared.refusal.Refusal.TheVariants as Refusals;
-ghost use Rattle.calls.specs.Refusal.{refusal_number, code, value_or, length_answer};
+ghost use Rattle.calls.specs.Refusal.{refusal_number, refusal_text, code, value_or, length_answer};
 
 use ff_state::{TableFull, UnknownBits, UnknownState};
 use image::{NotAnImage, WrongLength};
+use packing::PackError;
+use refresh::RefreshError;
 use std::error::Error;
 use std::fmt;
 
@@ -41,18 +45,20 @@ impl From<Refusal> for u32 {
 }
 
 impl fmt::Display for Refusal {
+    ghost output = { λ r. Some (refusal_text r) };
+
     fn fmt<W: fmt::Write>(&self, f: &mut fmt::Formatter<W>) -> fmt::Result {
-        f.write_str(match self {
-            Refusal::UnknownState => "no transform has this number",
-            Refusal::UndefinedLight => "no light is defined at this index",
-            Refusal::TableFull => "56 other lights from index 8 on are stored",
-            Refusal::WrongLength => "a slice is not as long as its item",
-            Refusal::WrongMask => "the key's light mask is not that of the active lights",
-            Refusal::Singular => "the matrix has no inverse",
-            Refusal::UnknownBits => "a bit is no section's",
-            Refusal::HasRhw => "vertices under this key are transformed already",
-            Refusal::NotAnImage => "the bytes are no state image",
-        })
+        match self {
+            Refusal::UnknownState => UnknownState.fmt(f),
+            Refusal::UndefinedLight => f.write_str("no light is defined at this index"),
+            Refusal::TableFull => TableFull.fmt(f),
+            Refusal::WrongLength => f.write_str("a slice is not as long as its item"),
+            Refusal::WrongMask => RefreshError::WrongMask.fmt(f),
+            Refusal::Singular => f.write_str("the matrix has no inverse"),
+            Refusal::UnknownBits => UnknownBits.fmt(f),
+            Refusal::HasRhw => RefreshError::HasRhw.fmt(f),
+            Refusal::NotAnImage => NotAnImage.fmt(f),
+        }
     }
 }
 
@@ -86,7 +92,7 @@ impl From<NotAnImage> for Refusal {
     ghost from_gives = { λ _ r. r ≡ Refusals.NotAnImage };
 
     fn from(_e: NotAnImage) -> Refusal {
-        Refusal::NotAnImage // 9
+        Refusal::NotAnImage
     }
 }
 
@@ -95,6 +101,31 @@ impl From<WrongLength> for Refusal {
 
     fn from(_e: WrongLength) -> Refusal {
         Refusal::WrongLength
+    }
+}
+
+impl From<PackError> for Refusal {
+    ghost from_gives = { λ e r. refusal_number r ≡ pack_number (Err e) };
+
+    #[tactic(auto, unfolding(packing::specs::Pack::pack_number))]
+    fn from(e: PackError) -> Refusal {
+        match e {
+            PackError::WrongLength => Refusal::WrongLength,
+            PackError::WrongMask => Refusal::WrongMask,
+        }
+    }
+}
+
+impl From<RefreshError> for Refusal {
+    ghost from_gives = { λ e r. refusal_number r ≡ refresh_number (Err e) };
+
+    #[tactic(auto, unfolding(refresh::specs::Answer::refresh_number))]
+    fn from(e: RefreshError) -> Refusal {
+        match e {
+            RefreshError::WrongLength => Refusal::WrongLength,
+            RefreshError::HasRhw => Refusal::HasRhw,
+            RefreshError::WrongMask => Refusal::WrongMask,
+        }
     }
 }
 

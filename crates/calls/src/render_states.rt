@@ -1,5 +1,5 @@
-// Calls on fog, the ambient colour and the texture mask. They refuse 9 alone; a float is given by its bits. Three lines each, of one form: a
-// closure for what is set would be no shorter than the line in which it is set.
+// Calls on fog, the ambient colour and the texture mask. They refuse 9 alone; a float is given by its bits.
+// Three lines each: as `change(image, |s| s.set_ambient(color))` none proved without a file that says again what its closure sets (tried).
 ghost use Rattle.std.specs.Prelude.{◌≡◌};
 ghost use Rattle.calls.specs.Answer.{answer};
 ghost use Rattle.calls.specs.Refusal.{code};

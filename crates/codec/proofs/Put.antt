@@ -10,7 +10,7 @@ use lib.ListN.{length, take, drop, set, get_or, length-append, length-drop, drop
 use lib.Seq.{sets, sets-eq, get_or-append-add, get_or-take, get_or-drop, length-take-le, take-append-le, take-take, take-nil, take_at, drop-nil, drop_at, drop-drop}
 use Rattle.codec.specs.Put.{put}
 
-take-drop : {A : Type 0} (k n : ℕ) (l : List A) → take k (drop n l) ≡ drop n (take (n + k) l)
+pub take-drop : {A : Type 0} (k n : ℕ) (l : List A) → take k (drop n l) ≡ drop n (take (n + k) l)
 take-drop k zero l = rw zero-add
 take-drop k (suc n) [] = simp (take-nil, drop-nil)
 take-drop k (suc n) (x ∷ l) = rw suc-add (take-drop k n l)
@@ -22,19 +22,6 @@ put_sets at vs m h = sets-eq vs m at h ∙ simp (append_assoc, ← drop-drop)
 
 pub one_store : (at : ℕ) (m : List ℕ) (a : ℕ) → at + 1 ≤ length m → set m at a ≡ put at (a ∷ []) m
 one_store at m a h = put_sets at (a ∷ []) m h
-
-pub two_stores : (at : ℕ) (m : List ℕ) (a b : ℕ) → at + 2 ≤ length m → set (set m at a) (at + 1) b ≡ put at (a ∷ b ∷ []) m
-two_stores at m a b h =
-    let e₁ : at + 1 ≡ suc at = omega arith in
-    rw e₁ (put_sets at (a ∷ b ∷ []) m h)
-
-pub four_stores : (at : ℕ) (m : List ℕ) (a b c d : ℕ) → at + 4 ≤ length m
-    → set (set (set (set m at a) (at + 1) b) (at + 2) c) (at + 3) d ≡ put at (a ∷ b ∷ c ∷ d ∷ []) m
-four_stores at m a b c d h =
-    let e₁ : at + 1 ≡ suc at = omega arith in
-    let e₂ : at + 2 ≡ suc (suc at) = omega arith in
-    let e₃ : at + 3 ≡ suc (suc (suc at)) = omega arith in
-    rw (e₁, e₂, e₃) (put_sets at (a ∷ b ∷ c ∷ d ∷ []) m h)
 
 pub put-none : {A : Type 0} (at : ℕ) (m : List A) → put at [] m ≡ m
 unfolding put

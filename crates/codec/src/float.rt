@@ -1,5 +1,4 @@
 // Floats by their bits. Every NaN pattern reads as the NaN, which is written 0x7FC00000.
-ghost use Rattle.d3d9_types.specs.Numbers.{float_fits};
 ghost use Rattle.codec.specs.Float.{float_at, float_bytes};
 ghost use Rattle.codec.specs.Sizes.{length-float_bytes};
 

@@ -3,9 +3,8 @@ ghost use Rattle.codec.specs.Light.{light_at, light_bytes};
 ghost use Rattle.codec.specs.Sizes.{length-light_bytes};
 
 use crate::storage::Stored;
-use d3d9_types::{D3DCOLORVALUE, D3DLIGHT9, D3DVECTOR, Row};
+use d3d9_types::{D3DCOLORVALUE, D3DLIGHT9, D3DVECTOR};
 
-// The seven floats behind the direction are read and written as a row and a vector.
 impl Stored for D3DLIGHT9 {
     const SIZE: usize = 104;
 
@@ -17,53 +16,39 @@ impl Stored for D3DLIGHT9 {
 
     ghost wide = { length-light_bytes };
 
-    #[tactic(auto, unfolding(crate::specs::Light::light_at, crate::specs::Matrix::row_at, crate::specs::Vector::vector_at))]
+    #[tactic(auto, unfolding(crate::specs::Light::light_at))]
     fn read(s: &[u8], from: usize) -> D3DLIGHT9 {
-        let type_ = u32::read(s, from);
-        let diffuse = D3DCOLORVALUE::read(s, from + 4);
-        let specular = D3DCOLORVALUE::read(s, from + 20);
-        let ambient = D3DCOLORVALUE::read(s, from + 36);
-        let position = D3DVECTOR::read(s, from + 52);
-        let direction = D3DVECTOR::read(s, from + 64);
-        let first = Row::read(s, from + 76);
-        let last = D3DVECTOR::read(s, from + 92);
         D3DLIGHT9 {
-            type_,
-            diffuse,
-            specular,
-            ambient,
-            position,
-            direction,
-            range: first.x,
-            falloff: first.y,
-            attenuation0: first.z,
-            attenuation1: first.w,
-            attenuation2: last.x,
-            theta: last.y,
-            phi: last.z,
+            type_: u32::read(s, from),
+            diffuse: D3DCOLORVALUE::read(s, from + 4),
+            specular: D3DCOLORVALUE::read(s, from + 20),
+            ambient: D3DCOLORVALUE::read(s, from + 36),
+            position: D3DVECTOR::read(s, from + 52),
+            direction: D3DVECTOR::read(s, from + 64),
+            range: f32::read(s, from + 76),
+            falloff: f32::read(s, from + 80),
+            attenuation0: f32::read(s, from + 84),
+            attenuation1: f32::read(s, from + 88),
+            attenuation2: f32::read(s, from + 92),
+            theta: f32::read(s, from + 96),
+            phi: f32::read(s, from + 100),
         }
     }
 
-    #[tactic(auto, unfolding(crate::specs::Light::light_bytes, crate::specs::Matrix::row_bytes, crate::specs::Vector::vector_bytes))]
+    #[tactic(auto, unfolding(crate::specs::Light::light_bytes))]
     fn put(self, dst: &mut [u8], from: usize) {
-        let first = Row {
-            x: self.range,
-            y: self.falloff,
-            z: self.attenuation0,
-            w: self.attenuation1,
-        };
-        let last = D3DVECTOR {
-            x: self.attenuation2,
-            y: self.theta,
-            z: self.phi,
-        };
         self.type_.put(dst, from);
         self.diffuse.put(dst, from + 4);
         self.specular.put(dst, from + 20);
         self.ambient.put(dst, from + 36);
         self.position.put(dst, from + 52);
         self.direction.put(dst, from + 64);
-        first.put(dst, from + 76);
-        last.put(dst, from + 92);
+        self.range.put(dst, from + 76);
+        self.falloff.put(dst, from + 80);
+        self.attenuation0.put(dst, from + 84);
+        self.attenuation1.put(dst, from + 88);
+        self.attenuation2.put(dst, from + 92);
+        self.theta.put(dst, from + 96);
+        self.phi.put(dst, from + 100);
     }
 }

@@ -44,27 +44,16 @@ raised highest n = cond (leb 256 n && leb n 511) (max highest (n - 256)) highest
 -- one update for each field; of the matrices, one
 abbrev pub replaced_matrix : AbstractState → ℕ → D3DMATRIX → AbstractState
 replaced_matrix a n m =
-    record {
-      matrix = λ k. cond (eqb k n) m (a.matrix k);
-      material = a.material;
-      lights = a.lights;
-      highest_index = raised a.highest_index n;
-      render_states = a.render_states;
-      texture_mask = a.texture_mask;
-    }
+    record a { matrix = λ k. cond (eqb k n) m (a.matrix k); highest_index = raised a.highest_index n }
 
 abbrev pub replaced_material : AbstractState → D3DMATERIAL9 → AbstractState
-replaced_material a m =
-    record { matrix = a.matrix; material = m; lights = a.lights; highest_index = a.highest_index; render_states = a.render_states; texture_mask = a.texture_mask }
+replaced_material a m = record a { material = m }
 
 abbrev pub replaced_lights : AbstractState → List AbstractLight → AbstractState
-replaced_lights a ls =
-    record { matrix = a.matrix; material = a.material; lights = ls; highest_index = a.highest_index; render_states = a.render_states; texture_mask = a.texture_mask }
+replaced_lights a ls = record a { lights = ls }
 
 abbrev pub replaced_states : AbstractState → RenderStates → AbstractState
-replaced_states a r =
-    record { matrix = a.matrix; material = a.material; lights = a.lights; highest_index = a.highest_index; render_states = r; texture_mask = a.texture_mask }
+replaced_states a r = record a { render_states = r }
 
 abbrev pub replaced_mask : AbstractState → ℕ → AbstractState
-replaced_mask a t =
-    record { matrix = a.matrix; material = a.material; lights = a.lights; highest_index = a.highest_index; render_states = a.render_states; texture_mask = t }
+replaced_mask a t = record a { texture_mask = t }

@@ -8,16 +8,16 @@ abbrev pub fresh_states : RenderStates
 fresh_states = record { fog_start = zero; fog_end = zero; fog_density = zero; ambient = 0 }
 
 abbrev pub with_fog_start : RenderStates → Float → RenderStates
-with_fog_start r x = record { fog_start = x; fog_end = r.fog_end; fog_density = r.fog_density; ambient = r.ambient }
+with_fog_start r x = record r { fog_start = x }
 
 abbrev pub with_fog_end : RenderStates → Float → RenderStates
-with_fog_end r x = record { fog_start = r.fog_start; fog_end = x; fog_density = r.fog_density; ambient = r.ambient }
+with_fog_end r x = record r { fog_end = x }
 
 abbrev pub with_fog_density : RenderStates → Float → RenderStates
-with_fog_density r x = record { fog_start = r.fog_start; fog_end = r.fog_end; fog_density = x; ambient = r.ambient }
+with_fog_density r x = record r { fog_density = x }
 
 abbrev pub with_ambient : RenderStates → ℕ → RenderStates
-with_ambient r x = record { fog_start = r.fog_start; fog_end = r.fog_end; fog_density = r.fog_density; ambient = x }
+with_ambient r x = record r { ambient = x }
 
 pub record statesFit (r : RenderStates) : Type 0 where
   pub fog_start : float_fits r.fog_start

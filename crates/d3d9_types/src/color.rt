@@ -1,11 +1,11 @@
-// Colours: red, green, blue and alpha. Each is four floats, as a row is.
+// Colours: red, green, blue and alpha. Each is four floats, as a row is: the two conversions name the fields of both, which is all that either does.
 ghost use Rattle.std.specs.Prelude.{◌≡◌};
 ghost use Rattle.d3d9_types.specs.Color.{color_row, row_color};
 
 use crate::matrix::Row;
 
 #[repr(C)]
-#[derive(Clone, Copy, Debug, PartialEq)]
+#[derive(Clone, Copy, Debug, Default, PartialEq)]
 pub struct D3DCOLORVALUE {
     pub r: f32,
     pub g: f32,

@@ -12,7 +12,7 @@ pub const D3DLIGHT_SPOT: u32 = 2;
 
 pub const D3DLIGHT_DIRECTIONAL: u32 = 3;
 
-// The type is a number, kept as it is: any other than the three lights nothing.
+// The type is a number, kept as it is: C's record holds any u32, and any other than the three lights nothing.
 #[repr(C)]
 #[derive(Clone, Copy, Debug, PartialEq)]
 pub struct D3DLIGHT9 {
@@ -36,12 +36,6 @@ impl Default for D3DLIGHT9 {
 
     #[tactic(auto, using(crate::proofs::Literals::zero_is, crate::proofs::Literals::one_is), unfolding(crate::specs::Light::default_light))]
     fn default() -> D3DLIGHT9 {
-        let black = D3DCOLORVALUE {
-            r: 0.0,
-            g: 0.0,
-            b: 0.0,
-            a: 0.0,
-        };
         D3DLIGHT9 {
             type_: D3DLIGHT_DIRECTIONAL,
             diffuse: D3DCOLORVALUE {
@@ -50,13 +44,9 @@ impl Default for D3DLIGHT9 {
                 b: 1.0,
                 a: 0.0,
             },
-            specular: black,
-            ambient: black,
-            position: D3DVECTOR {
-                x: 0.0,
-                y: 0.0,
-                z: 0.0,
-            },
+            specular: D3DCOLORVALUE::default(),
+            ambient: D3DCOLORVALUE::default(),
+            position: D3DVECTOR::default(),
             direction: D3DVECTOR {
                 x: 0.0,
                 y: 0.0,

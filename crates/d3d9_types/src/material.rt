@@ -14,17 +14,13 @@ pub struct D3DMATERIAL9 {
     pub power: f32,
 }
 
+// By hand, so that its clause names document 01's definition.
 impl Default for D3DMATERIAL9 {
     ghost is_default = { λ m. m ≡ default_material };
 
     #[tactic(auto, using(crate::proofs::Literals::zero_is), unfolding(crate::specs::Material::default_material))]
     fn default() -> D3DMATERIAL9 {
-        let black = D3DCOLORVALUE {
-            r: 0.0,
-            g: 0.0,
-            b: 0.0,
-            a: 0.0,
-        };
+        let black = D3DCOLORVALUE::default();
         D3DMATERIAL9 {
             diffuse: black,
             ambient: black,

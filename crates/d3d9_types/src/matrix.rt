@@ -4,7 +4,7 @@ ghost use Rattle.d3d9_types.specs.Matrix as Matrix;
 
 // Four floats: a row of a matrix, or a packed row.
 #[repr(C)]
-#[derive(Clone, Copy, Debug, PartialEq)]
+#[derive(Clone, Copy, Debug, Default, PartialEq)]
 pub struct Row {
     pub x: f32,
     pub y: f32,

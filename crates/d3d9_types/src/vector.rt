@@ -1,6 +1,6 @@
 // Positions and directions.
 #[repr(C)]
-#[derive(Clone, Copy, Debug, PartialEq)]
+#[derive(Clone, Copy, Debug, Default, PartialEq)]
 pub struct D3DVECTOR {
     pub x: f32,
     pub y: f32,

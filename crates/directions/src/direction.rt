@@ -15,11 +15,7 @@ fn over_length(d: D3DVECTOR) -> D3DVECTOR
     if length > 0.0 {
         return d.map(|c| c / length);
     }
-    D3DVECTOR {
-        x: 0.0,
-        y: 0.0,
-        z: 0.0,
-    }
+    D3DVECTOR::default()
 }
 
 // A direction of any finite length above 0: it is scaled first.

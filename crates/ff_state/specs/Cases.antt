@@ -11,22 +11,7 @@ use Rattle.ff_state.specs.declared.state.FfState.{FfState}
 
 -- a light of a type
 abbrev pub light_of : ℕ → D3DLIGHT9
-light_of t =
-    record {
-      type_ = t;
-      diffuse = default_light.diffuse;
-      specular = default_light.specular;
-      ambient = default_light.ambient;
-      position = default_light.position;
-      direction = default_light.direction;
-      range = default_light.range;
-      falloff = default_light.falloff;
-      attenuation0 = default_light.attenuation0;
-      attenuation1 = default_light.attenuation1;
-      attenuation2 = default_light.attenuation2;
-      theta = default_light.theta;
-      phi = default_light.phi;
-    }
+light_of t = record default_light { type_ = t }
 
 -- a light set and enabled
 abbrev pub lit : FfState → ℕ → ℕ → FfState

@@ -16,3 +16,7 @@ refused s e = record { answer = Err e; state = s }
 unfoldable pub changed : {E : Type 0} → FfState → Result FfState E → Changed E
 changed s (Ok t) = accepted t
 changed s (Err e) = refused s e
+
+-- A call in place answers, and leaves a state.
+abbrev pub in_place : {E : Type 0} → Result (Unit {0}) E → FfState → Changed E
+in_place answer s = record { answer = answer; state = s }

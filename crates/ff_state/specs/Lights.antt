@@ -1,5 +1,5 @@
 -- Lights by any index. Document 01, 'Calls that change the state', the paragraph on lights; in Direct3D IDirect3DDevice9::SetLight, LightEnable, GetLight, GetLightEnable.
-use Rattle.std.specs.Prelude.{ℕ, ◌+◌, Bool, cond, not, Option, Some, None, Result, Ok, Err, is_ok, ◌&&◌, ◌||◌, ltb, eqb, set, get_or}
+use Rattle.std.specs.Prelude.{ℕ, ◌+◌, Bool, cond, not, Option, Some, None, Result, Ok, Err, is_ok, ◌&&◌, ◌||◌, ltb, eqb, set, get_or, List, codes}
 use Rattle.d3d9_types.specs.Light.{default_light}
 use Rattle.d3d9_types.specs.declared.light.D3DLIGHT9.{D3DLIGHT9}
 use Rattle.words.specs.Bits.{has_bit}
@@ -87,3 +87,7 @@ light_number (Err _) = 3
 unfoldable pub light_read_number : Option D3DLIGHT9 → ℕ
 light_read_number (Some l) = 0
 light_read_number None = 2
+
+-- what is written of the error
+abbrev pub table_full_text : List ℕ
+table_full_text = codes "56 other lights from index 8 on are stored"

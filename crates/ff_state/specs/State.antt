@@ -1,4 +1,4 @@
--- The state's record: one update for each field, and nothing else writes the record out; the fresh state.
+-- The state's record: one update for each field; the fresh state, which alone writes all of it out.
 -- How odd values read, for every call: an overflow count above 56 is 56; an entry is enabled by any number but 0; masks and dirty bits are read bit by bit as they stand;
 -- the highest palette index is taken as it stands; what stands in an undefined slot or an unused entry is not looked at.
 use Rattle.std.specs.Prelude.{ℕ, List, replicate}
@@ -18,378 +18,55 @@ use Rattle.ff_state.specs.declared.state.FfState.{FfState}
 use Rattle.light_table.specs.declared.entry.OverflowLight.{OverflowLight}
 
 abbrev pub with_view : FfState → D3DMATRIX → FfState
-with_view s x =
-    record {
-      view = x;
-      projection = s.projection;
-      world_palette = s.world_palette;
-      world_palette_high_water = s.world_palette_high_water;
-      texture_transforms = s.texture_transforms;
-      material = s.material;
-      lights = s.lights;
-      light_enabled = s.light_enabled;
-      light_set_mask = s.light_set_mask;
-      light_defined_mask = s.light_defined_mask;
-      light_directional_mask = s.light_directional_mask;
-      light_spot_mask = s.light_spot_mask;
-      overflow_lights = s.overflow_lights;
-      overflow_count = s.overflow_count;
-      ff_vs_dirty = s.ff_vs_dirty;
-      render_states = s.render_states;
-      tt_active_mask = s.tt_active_mask;
-    }
+with_view s x = record s { view = x }
 
 abbrev pub with_projection : FfState → D3DMATRIX → FfState
-with_projection s x =
-    record {
-      view = s.view;
-      projection = x;
-      world_palette = s.world_palette;
-      world_palette_high_water = s.world_palette_high_water;
-      texture_transforms = s.texture_transforms;
-      material = s.material;
-      lights = s.lights;
-      light_enabled = s.light_enabled;
-      light_set_mask = s.light_set_mask;
-      light_defined_mask = s.light_defined_mask;
-      light_directional_mask = s.light_directional_mask;
-      light_spot_mask = s.light_spot_mask;
-      overflow_lights = s.overflow_lights;
-      overflow_count = s.overflow_count;
-      ff_vs_dirty = s.ff_vs_dirty;
-      render_states = s.render_states;
-      tt_active_mask = s.tt_active_mask;
-    }
+with_projection s x = record s { projection = x }
 
 abbrev pub with_world_palette : FfState → List D3DMATRIX → FfState
-with_world_palette s x =
-    record {
-      view = s.view;
-      projection = s.projection;
-      world_palette = x;
-      world_palette_high_water = s.world_palette_high_water;
-      texture_transforms = s.texture_transforms;
-      material = s.material;
-      lights = s.lights;
-      light_enabled = s.light_enabled;
-      light_set_mask = s.light_set_mask;
-      light_defined_mask = s.light_defined_mask;
-      light_directional_mask = s.light_directional_mask;
-      light_spot_mask = s.light_spot_mask;
-      overflow_lights = s.overflow_lights;
-      overflow_count = s.overflow_count;
-      ff_vs_dirty = s.ff_vs_dirty;
-      render_states = s.render_states;
-      tt_active_mask = s.tt_active_mask;
-    }
+with_world_palette s x = record s { world_palette = x }
 
 abbrev pub with_world_palette_high_water : FfState → ℕ → FfState
-with_world_palette_high_water s x =
-    record {
-      view = s.view;
-      projection = s.projection;
-      world_palette = s.world_palette;
-      world_palette_high_water = x;
-      texture_transforms = s.texture_transforms;
-      material = s.material;
-      lights = s.lights;
-      light_enabled = s.light_enabled;
-      light_set_mask = s.light_set_mask;
-      light_defined_mask = s.light_defined_mask;
-      light_directional_mask = s.light_directional_mask;
-      light_spot_mask = s.light_spot_mask;
-      overflow_lights = s.overflow_lights;
-      overflow_count = s.overflow_count;
-      ff_vs_dirty = s.ff_vs_dirty;
-      render_states = s.render_states;
-      tt_active_mask = s.tt_active_mask;
-    }
+with_world_palette_high_water s x = record s { world_palette_high_water = x }
 
 abbrev pub with_texture_transforms : FfState → List D3DMATRIX → FfState
-with_texture_transforms s x =
-    record {
-      view = s.view;
-      projection = s.projection;
-      world_palette = s.world_palette;
-      world_palette_high_water = s.world_palette_high_water;
-      texture_transforms = x;
-      material = s.material;
-      lights = s.lights;
-      light_enabled = s.light_enabled;
-      light_set_mask = s.light_set_mask;
-      light_defined_mask = s.light_defined_mask;
-      light_directional_mask = s.light_directional_mask;
-      light_spot_mask = s.light_spot_mask;
-      overflow_lights = s.overflow_lights;
-      overflow_count = s.overflow_count;
-      ff_vs_dirty = s.ff_vs_dirty;
-      render_states = s.render_states;
-      tt_active_mask = s.tt_active_mask;
-    }
+with_texture_transforms s x = record s { texture_transforms = x }
 
 abbrev pub with_material : FfState → D3DMATERIAL9 → FfState
-with_material s x =
-    record {
-      view = s.view;
-      projection = s.projection;
-      world_palette = s.world_palette;
-      world_palette_high_water = s.world_palette_high_water;
-      texture_transforms = s.texture_transforms;
-      material = x;
-      lights = s.lights;
-      light_enabled = s.light_enabled;
-      light_set_mask = s.light_set_mask;
-      light_defined_mask = s.light_defined_mask;
-      light_directional_mask = s.light_directional_mask;
-      light_spot_mask = s.light_spot_mask;
-      overflow_lights = s.overflow_lights;
-      overflow_count = s.overflow_count;
-      ff_vs_dirty = s.ff_vs_dirty;
-      render_states = s.render_states;
-      tt_active_mask = s.tt_active_mask;
-    }
+with_material s x = record s { material = x }
 
 abbrev pub with_lights : FfState → List D3DLIGHT9 → FfState
-with_lights s x =
-    record {
-      view = s.view;
-      projection = s.projection;
-      world_palette = s.world_palette;
-      world_palette_high_water = s.world_palette_high_water;
-      texture_transforms = s.texture_transforms;
-      material = s.material;
-      lights = x;
-      light_enabled = s.light_enabled;
-      light_set_mask = s.light_set_mask;
-      light_defined_mask = s.light_defined_mask;
-      light_directional_mask = s.light_directional_mask;
-      light_spot_mask = s.light_spot_mask;
-      overflow_lights = s.overflow_lights;
-      overflow_count = s.overflow_count;
-      ff_vs_dirty = s.ff_vs_dirty;
-      render_states = s.render_states;
-      tt_active_mask = s.tt_active_mask;
-    }
+with_lights s x = record s { lights = x }
 
 abbrev pub with_light_enabled : FfState → ℕ → FfState
-with_light_enabled s x =
-    record {
-      view = s.view;
-      projection = s.projection;
-      world_palette = s.world_palette;
-      world_palette_high_water = s.world_palette_high_water;
-      texture_transforms = s.texture_transforms;
-      material = s.material;
-      lights = s.lights;
-      light_enabled = x;
-      light_set_mask = s.light_set_mask;
-      light_defined_mask = s.light_defined_mask;
-      light_directional_mask = s.light_directional_mask;
-      light_spot_mask = s.light_spot_mask;
-      overflow_lights = s.overflow_lights;
-      overflow_count = s.overflow_count;
-      ff_vs_dirty = s.ff_vs_dirty;
-      render_states = s.render_states;
-      tt_active_mask = s.tt_active_mask;
-    }
+with_light_enabled s x = record s { light_enabled = x }
 
 abbrev pub with_light_set_mask : FfState → ℕ → FfState
-with_light_set_mask s x =
-    record {
-      view = s.view;
-      projection = s.projection;
-      world_palette = s.world_palette;
-      world_palette_high_water = s.world_palette_high_water;
-      texture_transforms = s.texture_transforms;
-      material = s.material;
-      lights = s.lights;
-      light_enabled = s.light_enabled;
-      light_set_mask = x;
-      light_defined_mask = s.light_defined_mask;
-      light_directional_mask = s.light_directional_mask;
-      light_spot_mask = s.light_spot_mask;
-      overflow_lights = s.overflow_lights;
-      overflow_count = s.overflow_count;
-      ff_vs_dirty = s.ff_vs_dirty;
-      render_states = s.render_states;
-      tt_active_mask = s.tt_active_mask;
-    }
+with_light_set_mask s x = record s { light_set_mask = x }
 
 abbrev pub with_light_defined_mask : FfState → ℕ → FfState
-with_light_defined_mask s x =
-    record {
-      view = s.view;
-      projection = s.projection;
-      world_palette = s.world_palette;
-      world_palette_high_water = s.world_palette_high_water;
-      texture_transforms = s.texture_transforms;
-      material = s.material;
-      lights = s.lights;
-      light_enabled = s.light_enabled;
-      light_set_mask = s.light_set_mask;
-      light_defined_mask = x;
-      light_directional_mask = s.light_directional_mask;
-      light_spot_mask = s.light_spot_mask;
-      overflow_lights = s.overflow_lights;
-      overflow_count = s.overflow_count;
-      ff_vs_dirty = s.ff_vs_dirty;
-      render_states = s.render_states;
-      tt_active_mask = s.tt_active_mask;
-    }
+with_light_defined_mask s x = record s { light_defined_mask = x }
 
 abbrev pub with_light_directional_mask : FfState → ℕ → FfState
-with_light_directional_mask s x =
-    record {
-      view = s.view;
-      projection = s.projection;
-      world_palette = s.world_palette;
-      world_palette_high_water = s.world_palette_high_water;
-      texture_transforms = s.texture_transforms;
-      material = s.material;
-      lights = s.lights;
-      light_enabled = s.light_enabled;
-      light_set_mask = s.light_set_mask;
-      light_defined_mask = s.light_defined_mask;
-      light_directional_mask = x;
-      light_spot_mask = s.light_spot_mask;
-      overflow_lights = s.overflow_lights;
-      overflow_count = s.overflow_count;
-      ff_vs_dirty = s.ff_vs_dirty;
-      render_states = s.render_states;
-      tt_active_mask = s.tt_active_mask;
-    }
+with_light_directional_mask s x = record s { light_directional_mask = x }
 
 abbrev pub with_light_spot_mask : FfState → ℕ → FfState
-with_light_spot_mask s x =
-    record {
-      view = s.view;
-      projection = s.projection;
-      world_palette = s.world_palette;
-      world_palette_high_water = s.world_palette_high_water;
-      texture_transforms = s.texture_transforms;
-      material = s.material;
-      lights = s.lights;
-      light_enabled = s.light_enabled;
-      light_set_mask = s.light_set_mask;
-      light_defined_mask = s.light_defined_mask;
-      light_directional_mask = s.light_directional_mask;
-      light_spot_mask = x;
-      overflow_lights = s.overflow_lights;
-      overflow_count = s.overflow_count;
-      ff_vs_dirty = s.ff_vs_dirty;
-      render_states = s.render_states;
-      tt_active_mask = s.tt_active_mask;
-    }
+with_light_spot_mask s x = record s { light_spot_mask = x }
 
 abbrev pub with_overflow_lights : FfState → List OverflowLight → FfState
-with_overflow_lights s x =
-    record {
-      view = s.view;
-      projection = s.projection;
-      world_palette = s.world_palette;
-      world_palette_high_water = s.world_palette_high_water;
-      texture_transforms = s.texture_transforms;
-      material = s.material;
-      lights = s.lights;
-      light_enabled = s.light_enabled;
-      light_set_mask = s.light_set_mask;
-      light_defined_mask = s.light_defined_mask;
-      light_directional_mask = s.light_directional_mask;
-      light_spot_mask = s.light_spot_mask;
-      overflow_lights = x;
-      overflow_count = s.overflow_count;
-      ff_vs_dirty = s.ff_vs_dirty;
-      render_states = s.render_states;
-      tt_active_mask = s.tt_active_mask;
-    }
+with_overflow_lights s x = record s { overflow_lights = x }
 
 abbrev pub with_overflow_count : FfState → ℕ → FfState
-with_overflow_count s x =
-    record {
-      view = s.view;
-      projection = s.projection;
-      world_palette = s.world_palette;
-      world_palette_high_water = s.world_palette_high_water;
-      texture_transforms = s.texture_transforms;
-      material = s.material;
-      lights = s.lights;
-      light_enabled = s.light_enabled;
-      light_set_mask = s.light_set_mask;
-      light_defined_mask = s.light_defined_mask;
-      light_directional_mask = s.light_directional_mask;
-      light_spot_mask = s.light_spot_mask;
-      overflow_lights = s.overflow_lights;
-      overflow_count = x;
-      ff_vs_dirty = s.ff_vs_dirty;
-      render_states = s.render_states;
-      tt_active_mask = s.tt_active_mask;
-    }
+with_overflow_count s x = record s { overflow_count = x }
 
 abbrev pub with_ff_vs_dirty : FfState → ℕ → FfState
-with_ff_vs_dirty s x =
-    record {
-      view = s.view;
-      projection = s.projection;
-      world_palette = s.world_palette;
-      world_palette_high_water = s.world_palette_high_water;
-      texture_transforms = s.texture_transforms;
-      material = s.material;
-      lights = s.lights;
-      light_enabled = s.light_enabled;
-      light_set_mask = s.light_set_mask;
-      light_defined_mask = s.light_defined_mask;
-      light_directional_mask = s.light_directional_mask;
-      light_spot_mask = s.light_spot_mask;
-      overflow_lights = s.overflow_lights;
-      overflow_count = s.overflow_count;
-      ff_vs_dirty = x;
-      render_states = s.render_states;
-      tt_active_mask = s.tt_active_mask;
-    }
+with_ff_vs_dirty s x = record s { ff_vs_dirty = x }
 
 abbrev pub with_render_states : FfState → RenderStates → FfState
-with_render_states s x =
-    record {
-      view = s.view;
-      projection = s.projection;
-      world_palette = s.world_palette;
-      world_palette_high_water = s.world_palette_high_water;
-      texture_transforms = s.texture_transforms;
-      material = s.material;
-      lights = s.lights;
-      light_enabled = s.light_enabled;
-      light_set_mask = s.light_set_mask;
-      light_defined_mask = s.light_defined_mask;
-      light_directional_mask = s.light_directional_mask;
-      light_spot_mask = s.light_spot_mask;
-      overflow_lights = s.overflow_lights;
-      overflow_count = s.overflow_count;
-      ff_vs_dirty = s.ff_vs_dirty;
-      render_states = x;
-      tt_active_mask = s.tt_active_mask;
-    }
+with_render_states s x = record s { render_states = x }
 
 abbrev pub with_tt_active_mask : FfState → ℕ → FfState
-with_tt_active_mask s x =
-    record {
-      view = s.view;
-      projection = s.projection;
-      world_palette = s.world_palette;
-      world_palette_high_water = s.world_palette_high_water;
-      texture_transforms = s.texture_transforms;
-      material = s.material;
-      lights = s.lights;
-      light_enabled = s.light_enabled;
-      light_set_mask = s.light_set_mask;
-      light_defined_mask = s.light_defined_mask;
-      light_directional_mask = s.light_directional_mask;
-      light_spot_mask = s.light_spot_mask;
-      overflow_lights = s.overflow_lights;
-      overflow_count = s.overflow_count;
-      ff_vs_dirty = s.ff_vs_dirty;
-      render_states = s.render_states;
-      tt_active_mask = x;
-    }
+with_tt_active_mask s x = record s { tt_active_mask = x }
 
 -- the dirty bits, by section
 abbrev pub dirty_word : FfState → ℕ

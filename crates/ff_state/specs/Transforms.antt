@@ -1,5 +1,5 @@
 -- Transforms. Document 01, 'Calls that change the state'; ff_state.rs 319–430. D3DTRANSFORMSTATETYPE: VIEW 2, PROJECTION 3, TEXTURE0 to 7 16 to 23, WORLDMATRIX(i) 256 + i.
-use Rattle.std.specs.Prelude.{ℕ, ◌+◌, ◌-◌, ◌<◌, max, cond, Option, Some, None, Result, Ok, Err, List, [], ◌∷◌, ltb, eqb, set, get_or}
+use Rattle.std.specs.Prelude.{ℕ, ◌+◌, ◌-◌, ◌<◌, max, cond, Option, Some, None, Result, Ok, Err, List, [], ◌∷◌, ltb, eqb, set, get_or, codes}
 use Rattle.d3d9_types.specs.Matrix.{identity}
 use Rattle.d3d9_types.specs.declared.matrix.D3DMATRIX.{D3DMATRIX}
 use Rattle.matrix.specs.Product.{mat_mul}
@@ -96,3 +96,7 @@ transform_read_number (Err _) = 1
 unfoldable pub transform_read_matrix : Result D3DMATRIX UnknownState → D3DMATRIX
 transform_read_matrix (Ok m) = m
 transform_read_matrix (Err _) = identity
+
+-- what is written of the error
+abbrev pub unknown_state_text : List ℕ
+unknown_state_text = codes "a transform state that is none"

@@ -31,6 +31,7 @@ pub struct FfState {
 }
 
 impl FfState {
+    #[tactic(auto, using(d3d9_types::proofs::Literals::zero_is, d3d9_types::proofs::Literals::one_is), unfolding(crate::specs::State::fresh_state, light_table::specs::Entry::zero_entry, d3d9_types::specs::Matrix::identity))]
     pub fn new() -> Self
         ensures { result ≡ fresh_state }
     {
@@ -55,12 +56,7 @@ impl FfState {
             }; 56],
             overflow_count: 0,
             ff_vs_dirty: ALL,
-            render_states: RenderStates {
-                fog_start: 0.0,
-                fog_end: 0.0,
-                fog_density: 0.0,
-                ambient: 0,
-            },
+            render_states: RenderStates::default(),
             tt_active_mask: 0,
         }
     }

@@ -1,10 +1,9 @@
 // Transforms, by the numbers of D3DTRANSFORMSTATETYPE.
-ghost use Rattle.std.specs.Prelude.{◌≡◌, ◌<◌, IfSome};
-ghost use Rattle.ff_state.specs.Changed.{changed};
-ghost use Rattle.ff_state.specs.Transforms.{slot_of, InRange, place_matrix, placed, place_bits, set_transform, multiply_transform, transform_of};
+ghost use Rattle.std.specs.Prelude.{◌≡◌, ◌<◌, Some, IfSome};
+ghost use Rattle.ff_state.specs.Changed.{changed, in_place};
+ghost use Rattle.ff_state.specs.Transforms.{slot_of, InRange, place_matrix, placed, place_bits, set_transform, multiply_transform, transform_of, unknown_state_text};
 ghost use Rattle.ff_state.specs.Transforms as Transforms;
 
-use crate::dirty::with_dirty;
 use crate::state::FfState;
 use d3d9_types::{
     D3DMATRIX, D3DTS_PROJECTION, D3DTS_TEXTURE0, D3DTS_TEXTURE7, D3DTS_VIEW, D3DTS_WORLD,
@@ -31,6 +30,8 @@ pub enum Place {
 pub struct UnknownState;
 
 impl fmt::Display for UnknownState {
+    ghost output = { λ _. Some unknown_state_text };
+
     fn fmt<W: fmt::Write>(&self, f: &mut fmt::Formatter<W>) -> fmt::Result {
         f.write_str("a transform state that is none")
     }
@@ -38,7 +39,7 @@ impl fmt::Display for UnknownState {
 
 impl Error for UnknownState {}
 
-// What a number names, if anything: document 01 names the function.
+// What a number names, if anything. Document 01 names the function, so it is no `TryFrom`.
 #[tactic(auto, unfolding(crate::specs::Transforms::slot_of))]
 pub fn slot_of(state: u32) -> Option<Place>
     ensures value { result ≡ slot_of state }
@@ -69,76 +70,88 @@ fn place_bits(place: Place) -> u8
     }
 }
 
-// The state with m stored there. A palette index raises the highest one used.
+// A palette index raises the highest one used.
 #[tactic(auto, unfolding(crate::specs::Transforms::placed))]
-fn placed_at(mut s: FfState, place: Place, m: D3DMATRIX) -> FfState
+fn place_at(s: &mut FfState, place: Place, m: D3DMATRIX)
     requires { InRange place }
-    ensures { result ≡ placed s place m }
+    ensures { s.new ≡ placed s.old place m }
 {
     match place {
-        Place::View => {
-            s.view = m;
-        }
-        Place::Projection => {
-            s.projection = m;
-        }
-        Place::Texture(i) => {
-            s.texture_transforms[i] = m;
-        }
+        Place::View => s.view = m,
+        Place::Projection => s.projection = m,
+        Place::Texture(i) => s.texture_transforms[i] = m,
         Place::Palette(i) => {
             s.world_palette[i] = m;
-            if s.world_palette_high_water < i as u16 {
-                s.world_palette_high_water = i as u16;
-            }
+            s.world_palette_high_water = s.world_palette_high_water.max(i as u16);
         }
     }
-    s
 }
 
 #[tactic(auto, unfolding(crate::specs::Transforms::place_matrix))]
-fn place_matrix(s: FfState, place: Place) -> D3DMATRIX
+fn place_matrix(s: &FfState, place: Place) -> D3DMATRIX
     requires { InRange place }
-    ensures { result ≡ place_matrix s place }
+    ensures { result ≡ place_matrix s.now place }
 {
     match place {
         Place::View => s.view,
         Place::Projection => s.projection,
-        Place::Texture(i) => {
-            let textures = s.texture_transforms;
-            textures[i]
-        }
-        Place::Palette(i) => {
-            let palette = s.world_palette;
-            palette[i]
-        }
+        Place::Texture(i) => s.texture_transforms[i],
+        Place::Palette(i) => s.world_palette[i],
     }
 }
 
 impl FfState {
-    #[tactic(auto, unfolding(crate::specs::Transforms::set_transform, crate::specs::Transforms::change_at, crate::specs::Changed::changed))]
-    pub fn set_transform(self, state: u32, m: D3DMATRIX) -> Result<FfState, UnknownState>
-        ensures { changed self result ≡ set_transform self state m }
+    #[tactic(auto, unfolding(crate::specs::Transforms::set_transform, crate::specs::Transforms::change_at))]
+    pub fn store_transform(&mut self, state: u32, m: D3DMATRIX) -> Result<(), UnknownState>
+        ensures { in_place result self.new ≡ set_transform self.old state m }
     {
         let place = slot_of(state).ok_or(UnknownState)?;
-        Ok(with_dirty(placed_at(self, place, m), place_bits(place)))
+        place_at(self, place, m);
+        self.mark_sections(place_bits(place));
+        Ok(())
+    }
+
+    #[tactic(auto, unfolding(crate::specs::Transforms::set_transform, crate::specs::Transforms::change_at, crate::specs::Changed::changed))]
+    pub fn set_transform(mut self, state: u32, m: D3DMATRIX) -> Result<FfState, UnknownState>
+        ensures { changed self result ≡ set_transform self state m }
+    {
+        self.store_transform(state, m)?;
+        Ok(self)
     }
 
     // Stores argument x slot, by document 02 the order of Microsoft's page; the Rust has the other.
-    #[tactic(auto, unfolding(crate::specs::Transforms::multiply_transform, crate::specs::Transforms::change_at, crate::specs::Changed::changed))]
-    pub fn multiply_transform(self, state: u32, m: D3DMATRIX) -> Result<FfState, UnknownState>
-        ensures { changed self result ≡ multiply_transform self state m }
+    #[tactic(auto, unfolding(crate::specs::Transforms::multiply_transform, crate::specs::Transforms::change_at))]
+    pub fn multiply_in_place(&mut self, state: u32, m: D3DMATRIX) -> Result<(), UnknownState>
+        ensures { in_place result self.new ≡ multiply_transform self.old state m }
     {
         let place = slot_of(state).ok_or(UnknownState)?;
         let product = mat_mul(m, place_matrix(self, place));
-        Ok(with_dirty(placed_at(self, place, product), place_bits(place)))
+        place_at(self, place, product);
+        self.mark_sections(place_bits(place));
+        Ok(())
     }
 
+    #[tactic(auto, unfolding(crate::specs::Transforms::multiply_transform, crate::specs::Transforms::change_at, crate::specs::Changed::changed))]
+    pub fn multiply_transform(mut self, state: u32, m: D3DMATRIX) -> Result<FfState, UnknownState>
+        ensures { changed self result ≡ multiply_transform self state m }
+    {
+        self.multiply_in_place(state, m)?;
+        Ok(self)
+    }
+
+    // Of a state that is lent: `transform` copies its own.
     #[tactic(auto, unfolding(crate::specs::Transforms::transform_of, crate::specs::Transforms::read_at))]
-    pub fn transform(self, state: u32) -> Result<D3DMATRIX, UnknownState>
-        ensures { result ≡ transform_of self state }
+    pub fn transform_at(&self, state: u32) -> Result<D3DMATRIX, UnknownState>
+        ensures { result ≡ transform_of self.now state }
     {
         let place = slot_of(state).ok_or(UnknownState)?;
         Ok(place_matrix(self, place))
+    }
+
+    pub fn transform(self, state: u32) -> Result<D3DMATRIX, UnknownState>
+        ensures { result ≡ transform_of self state }
+    {
+        self.transform_at(state)
     }
 
     // The highest palette index ever set or multiplied, plus 1.
@@ -153,7 +166,6 @@ impl FfState {
     pub fn world_view_projection(self) -> D3DMATRIX
         ensures { result ≡ Transforms.world_view_projection self }
     {
-        let palette = self.world_palette;
-        mat_mul(mat_mul(palette[0], self.view), self.projection)
+        mat_mul(mat_mul(self.world_palette[0], self.view), self.projection)
     }
 }

@@ -1,5 +1,5 @@
-// What the language lacks on f32: bit patterns with one NaN, the larger of two floats, the square
-// root and the stand-in cosine. Every function is total.
+// Document 01's arithmetic of f32, where the library leaves something open or goes about it otherwise: bit patterns with one NaN, the larger
+// of two floats, the square root in the standard's steps, and the stand-in cosine. Every function is total.
 #![tactic(auto)]
 
 mod bits;

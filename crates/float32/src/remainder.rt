@@ -1,6 +1,6 @@
 // What is left of a float over a whole turn, T = 0xC90FDB · 2^-21, as C's fmod has it: exact, with the sign of
-// the operand. In whole numbers, and not by `%`, which is a call of the C library's fmodf: an older one of
-// these lacks the version that is linked.
+// the operand. In whole numbers, and not by `%`: this kit makes it a call of fmodf and links the one of glibc 2.38, so that a program with it
+// does not start on a machine whose glibc is older.
 ghost use Rattle.std.specs.Prelude.{◌≡◌, ◌*◌, ◌%◌, ◌^◌, ◌<◌, ◌≤◌};
 ghost use Rattle.std.specs.Float.Ieee.{rem, round};
 ghost use Rattle.std.specs.Float.{binary32};
@@ -14,7 +14,7 @@ fn moved_up(significand: u32, k: u32) -> u32
     ensures { result ≡ significand * 2 ^ k % 0xC9_0FDB }
 {
     let mut r = significand % 0xC9_0FDB;
-    for i in 0..k {
+    for _ in 0..k {
         r = 2 * r % 0xC9_0FDB;
     }
     r
@@ -38,7 +38,7 @@ pub fn of_turn(y: f32) -> f32
     let b = bits_of(y);
     let x = b % 0x8000_0000 / 0x80_0000;
     if x == 255 {
-        return 0.0 / 0.0;
+        return f32::NAN;
     }
     if x < 129 {
         return y;

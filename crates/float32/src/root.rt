@@ -1,5 +1,7 @@
 // The square root, in the order of IEEE 754-2019 (5.4.1, squareRoot): special operands, the
 // whole-number root with its remainder, rounding. Each of the three steps names its clause.
+// The library's `f32::sqrt` promises a root of another definition, and shows neither the steps nor the remainder, which document 02 (T-06)
+// asks for; document 01 states the root by the squares of whole numbers.
 ghost use Rattle.std.specs.Prelude.{◌≡◌, ◌-◌, ◌*◌, ◌%◌, ◌^◌, ◌≤◌, ◌<◌};
 ghost use Rattle.std.specs.Float.Ieee as Ieee;
 ghost use Rattle.std.specs.Float.{binary32};
@@ -119,44 +121,29 @@ fn with_even_exponent(f: Fields) -> u64
     requires { f.significand < 2 ^ 24 }
     ensures { result ≡ f.significand * 2 ^ (24 - f.exponent % 2) }
 {
-    f.significand as u64 * 0x80_0000 * (2 - f.exponent % 2) as u64
+    u64::from(f.significand) * 0x80_0000 * u64::from(2 - f.exponent % 2)
 }
 
 // The largest r with r * r <= n. A guess g that is further off than one costs time alone.
-fn floor_root(n: u64, g: u64) -> u64
-    requires { (n < 2 ^ 48) × (2 ^ 23 ≤ g) × (g < 2 ^ 24) }
+fn floor_root(n: u64, g: u32) -> u64
+    requires { n < 2 ^ 48 }
     ensures { result ≡ floor_root n }
 {
-    let r = not_above(n, g);
-    if r * r <= n && n < (r + 1) * (r + 1) {
+    let r = not_above(n, u64::from(g));
+    if r * r <= n && n - r * r <= 2 * r {
         r
     } else {
-        digit_root(n)
+        n.isqrt()
     }
 }
 
 // g, or one less where its square is above n.
 #[tactic(auto, using(crate::proofs::root::Squares::square_fits))]
 fn not_above(n: u64, g: u64) -> u64
-    requires { (2 ^ 23 ≤ g) × (g < 2 ^ 24) }
-    ensures { result < 2 ^ 24 }
+    requires { g < 2 ^ 32 }
+    ensures { result < 2 ^ 32 }
 {
     if n < g * g { g - 1 } else { g }
-}
-
-// The largest r with r * r <= n, a binary digit at a time.
-fn digit_root(n: u64) -> u64
-    requires { n < 2 ^ 48 }
-    ensures { result ≡ floor_root n }
-{
-    let mut r = 0u64;
-    for k in (0..24u32).rev() {
-        let next = r + (1 << k);
-        if next * next <= n {
-            r = next;
-        }
-    }
-    r
 }
 
 // ---- a guess by floats: `floor_root` tests what it is handed, so nothing but time rests on it
@@ -164,11 +151,8 @@ fn digit_root(n: u64) -> u64
 // 24 binary digits near the root of the number with an even exponent. t is the significand as a number
 // from 1 up to 2 and p is near its root; what `heron` is handed is a quarter of that number, and 4
 // parts in 10^11 more, so that a root that is whole is not missed.
-fn guess(f: Fields) -> u64
-    requires { f.significand < 2 ^ 24 }
-    ensures { (2 ^ 23 ≤ result) × (result < 2 ^ 24) }
-{
-    let t = f.significand as f64 * 0.00000011920928955078125;
+fn guess(f: Fields) -> u32 {
+    let t = f64::from(f.significand) * 0.00000011920928955078125;
     let p = 0.369956 + t * (0.787923 + t * (0.0249374 * t - 0.182748));
     if f.exponent % 2 == 1 {
         return heron(t * 17592186045120.0, p * 4194304.0);
@@ -178,12 +162,10 @@ fn guess(f: Fields) -> u64
 
 // The leading 24 binary digits of a number near twice the root of y, from a p near that root: p + y / p
 // is twice a step of Heron's rule, and never below.
-fn heron(y: f64, p: f64) -> u64
-    ensures { (2 ^ 23 ≤ result) × (result < 2 ^ 24) }
-{
+fn heron(y: f64, p: f64) -> u32 {
     let u = p + y / p;
     if u.is_nan() {
         return 0x80_0000;
     }
-    0x80_0000 + u.to_bits() / 0x2000_0000 % 0x80_0000
+    0x80_0000 + (u.to_bits() / 0x2000_0000 % 0x80_0000) as u32
 }

@@ -1,4 +1,4 @@
-// The rows of each section as bytes, 16 to a row. C has a name for each section, so there are eight functions of one form.
+// The rows of each section as bytes, 16 to a row. `host_c` has a C name for each section, and .ci/exports holds each to the function of its name here.
 ghost use Rattle.std.specs.Prelude.{◌≡◌};
 ghost use Rattle.calls.specs.Answer.{answer};
 ghost use Rattle.sections.specs.declared.sections.Section.TheVariants.{Wv, Proj, Material, Lights, Palette, Tt, Fog, Ambient};

@@ -1,4 +1,4 @@
-// How many rows each section has under a key, and how many a draw reads. C has a name for each section, so there are eight functions of one form.
+// How many rows each section has under a key, and how many a draw reads. `host_c` has a C name for each, and .ci/exports holds each to the function of its name here.
 ghost use Rattle.std.specs.Prelude.{◌≡◌};
 ghost use Rattle.calls.specs.Answer.{answer};
 ghost use Rattle.sections.specs.declared.sections.Section.TheVariants.{Wv, Proj, Material, Lights, Palette, Tt, Fog, Ambient};

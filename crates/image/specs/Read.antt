@@ -1,5 +1,5 @@
 -- Reading an image. Document 01, 'State image': "Reading refuses 9 for …"; the reasons are image_reasons'.
-use Rattle.std.specs.Prelude.{ℕ, cond, List, Result, Ok, Err}
+use Rattle.std.specs.Prelude.{ℕ, cond, List, Result, Ok, Err, codes}
 use Rattle.codec.specs.Little.{number_at}
 use Rattle.codec.specs.Matrix.{matrix_at}
 use Rattle.codec.specs.Material.{material_at}
@@ -49,6 +49,9 @@ pub record ImageRead : Type 0 where
 
 abbrev pub not_an_image : NotAnImage
 not_an_image = record {}
+
+abbrev pub not_an_image_text : List ℕ
+not_an_image_text = codes "the bytes are no image of a state"
 
 -- what a caller that held s has then: the state read, or s
 abbrev pub read_outcome : FfState → Result FfState NotAnImage → ImageRead

@@ -1,5 +1,5 @@
 -- Writing a state. Document 01, 'State image': "Writing refuses 4 for another length."
-use Rattle.std.specs.Prelude.{ℕ, cond, List, eqb, Result, Ok, Err, length}
+use Rattle.std.specs.Prelude.{ℕ, cond, List, eqb, Result, Ok, Err, codes, length}
 use Rattle.ff_state.specs.declared.state.FfState.{FfState}
 use Rattle.image_reasons.specs.Length.{image_length}
 use Rattle.image.specs.Format.{image_bytes}
@@ -15,6 +15,9 @@ write_outcome a bs = record { answer = a; bytes = bs }
 
 abbrev pub wrong_length : WrongLength
 wrong_length = record {}
+
+abbrev pub wrong_length_text : List ℕ
+wrong_length_text = codes "the destination is not as long as an image"
 
 unfoldable pub write_image : FfState → List ℕ → WriteOutcome
 write_image s dst = cond (eqb (length dst) image_length) (write_outcome (Ok tt) (image_bytes s)) (write_outcome (Err wrong_length) dst)

@@ -1,15 +1,14 @@
 // A state read from an image. Document 01, 'State image'.
-ghost use Rattle.std.specs.Prelude.{◌≡◌, ◌≤◌, length};
+ghost use Rattle.std.specs.Prelude.{◌≡◌, ◌≤◌, Some, length};
 ghost use Rattle.image_reasons.specs.Length.{image_length};
 ghost use Rattle.ff_state.specs.declared.state.FfState.{FfState};
-ghost use Rattle.image.specs.Read.{state_of, read_outcome, read_image};
+ghost use Rattle.image.specs.Read.{not_an_image_text, state_of, read_outcome, read_image};
 
 use codec::Stored;
-use d3d9_types::{D3DLIGHT9, D3DMATERIAL9, D3DMATRIX, IDENTITY, RenderStates};
+use d3d9_types::{D3DLIGHT_DIRECTIONAL, D3DLIGHT_SPOT, D3DMATERIAL9, D3DMATRIX, RenderStates};
 use ff_state::FfState;
 use image_lists::{list_at, set_mask, type_mask};
 use image_reasons::image_refused;
-use light_table::{OverflowLight, zero_light};
 use std::error::Error;
 use std::fmt;
 
@@ -18,6 +17,8 @@ use std::fmt;
 pub struct NotAnImage;
 
 impl fmt::Display for NotAnImage {
+    ghost output = { λ _. Some not_an_image_text };
+
     fn fmt<W: fmt::Write>(&self, f: &mut fmt::Formatter<W>) -> fmt::Result {
         f.write_str("the bytes are no image of a state")
     }
@@ -31,22 +32,17 @@ pub fn state_of(bytes: &[u8]) -> FfState
     requires { image_length ≤ length bytes.now }
     ensures { result ≡ state_of bytes.now }
 {
-    let unused = OverflowLight {
-        index: 0,
-        enabled: 0,
-        light: zero_light(),
-    };
-    let lights = list_at(bytes, 17_092, D3DLIGHT9::default());
+    let lights = list_at(bytes, 17_092);
     let defined = u8::read(bytes, 17_925);
     let set = set_mask(defined, lights);
-    let directional = type_mask(3, defined, lights);
-    let spot = type_mask(2, defined, lights);
+    let directional = type_mask(D3DLIGHT_DIRECTIONAL, defined, lights);
+    let spot = type_mask(D3DLIGHT_SPOT, defined, lights);
     FfState {
         view: D3DMATRIX::read(bytes, 0),
         projection: D3DMATRIX::read(bytes, 64),
-        world_palette: list_at(bytes, 128, IDENTITY),
+        world_palette: list_at(bytes, 128),
         world_palette_high_water: u16::read(bytes, 17_928),
-        texture_transforms: list_at(bytes, 16_512, IDENTITY),
+        texture_transforms: list_at(bytes, 16_512),
         material: D3DMATERIAL9::read(bytes, 17_024),
         lights: lights,
         light_enabled: u8::read(bytes, 17_924),
@@ -54,7 +50,7 @@ pub fn state_of(bytes: &[u8]) -> FfState
         light_defined_mask: defined,
         light_directional_mask: directional,
         light_spot_mask: spot,
-        overflow_lights: list_at(bytes, 17_932, unused),
+        overflow_lights: list_at(bytes, 17_932),
         overflow_count: u16::read(bytes, 17_930),
         ff_vs_dirty: u8::read(bytes, 17_926),
         render_states: RenderStates::read(bytes, 24_204),

@@ -1,6 +1,6 @@
 // A state written as an image. Document 01, 'State image'.
-ghost use Rattle.std.specs.Prelude.{◌≡◌};
-ghost use Rattle.image.specs.Write.{write_outcome, write_image};
+ghost use Rattle.std.specs.Prelude.{◌≡◌, Some};
+ghost use Rattle.image.specs.Write.{wrong_length_text, write_outcome, write_image};
 
 use codec::Stored;
 use ff_state::FfState;
@@ -14,6 +14,8 @@ use std::fmt;
 pub struct WrongLength;
 
 impl fmt::Display for WrongLength {
+    ghost output = { λ _. Some wrong_length_text };
+
     fn fmt<W: fmt::Write>(&self, f: &mut fmt::Formatter<W>) -> fmt::Result {
         f.write_str("the destination is not as long as an image")
     }

@@ -2,12 +2,13 @@
 -- Assumes nothing.
 use Prim.Native.Nat.{ℕ, zero, suc, ◌+◌, ◌*◌, ◌≤◌, ◌<◌}
 use native.Mathlib.Nat.{add_assoc, mul-suc, zero-add}
-use native.Mathlib.Numerals.{add-one}
 use native.Mathlib.Omega.{arith}
-use mathlib.Core.Path.{◌≡◌, refl, sym, ap, ◌∙◌}
+use mathlib.Core.Path.{◌≡◌, refl, sym, ap, subst, ◌∙◌}
 use mathlib.Core.List.{List, [], ◌∷◌, ◌++◌, append_assoc}
-use lib.ListN.{length, get_or, take, set, length-set}
-use lib.Seq.{take-suc-set, take_all}
+use lib.ListN.{length, get_or, take}
+use denote.Param.Members.{Mut}
+use Rattle.std.specs.Array.{IsFromFnResultFrom}
+use Rattle.std.specs.Fn.{Called}
 use Rattle.codec.proofs.Inside.{Skips, Starts, inside}
 use Rattle.image_lists.specs.Lists.{list_bytes, list_at}
 
@@ -64,28 +65,32 @@ module _ {A : Type 0} (read : List ℕ → ℕ → A) (size : ℕ) where
       → (pre post : List ℕ) (at : ℕ) → length pre ≡ at → list_at read size (length xs) (pre ++ (list_bytes write xs ++ post)) at ≡ xs
   list_at_inside skips write xs starts = inside (list_at read size (length xs)) (list_at_skips skips (length xs)) (list_bytes write xs) xs starts
 
--- what holds at the head of a loop that reads n items, when i of them are read
-pub record Filled {A : Type 0} (read : List ℕ → ℕ → A) (size n : ℕ) (bytes : List ℕ) (at : ℕ) (out : List A) (i : ℕ) : Type 0 where
-  pub most : i ≤ n
-  pub count : length out ≡ n
-  pub is : take i out ≡ list_at read size i bytes at
-
-module _ {A : Type 0} (read : List ℕ → ℕ → A) (size n : ℕ) (bytes : List ℕ) (at : ℕ) where
-  pub begins : (out : List A) → length out ≡ n → Filled read size n bytes at out 0
+  -- a list whose entry i is the item at its place, for each i
+  pub made : (n : ℕ) (bytes : List ℕ) (at : ℕ) (xs : List A) → length xs ≡ n → ((i : ℕ) (d : A) → i < n → get_or xs i d ≡ read bytes (at + size * i))
+      → xs ≡ list_at read size n bytes at
   unfolding list_at
-  begins out e = record { most = omega arith; count = e; is = refl }
+  made zero bytes at [] l h = refl
+  made zero bytes at (x ∷ xs) l h = absurd (omega arith)
+  made (suc n) bytes at [] l h = absurd (omega arith)
+  made (suc n) bytes at (x ∷ xs) l h =
+      let e : at + size * 0 ≡ at = omega arith in
+      let first : x ≡ read bytes at = rw e at (h 0 x (omega arith)) in
+      let rest : xs ≡ list_at read size n bytes (at + size) =
+      made n bytes (at + size) xs (omega arith) (λ (i : ℕ) (d : A) (m : i < n). h (suc i) d (omega arith) ∙ ap (read bytes) (sym (further at i))) in
+      rw (← first, ← rest)
 
-  pub goes_on : (out : List A) (i : ℕ) (v : A) → i < n → v ≡ read bytes (at + size * i) → Filled read size n bytes at out i
-      → Filled read size n bytes at (set out i v) (i + 1)
-  goes_on out i v h e f =
-      let in-range : i < length out = rw f.count h in
-      record {
-        most = omega arith;
-        count = length-set out i v ∙ f.count;
-        is = rw (add-one, take-suc-set out i v in-range, f.is, e) (sym (list_at_more read size i bytes at));
-      }
+-- what `from_fn` makes, where each call leaves the closure as it was and gives `item` of its number
+module _ {F A : Type 0} (g : Mut F (ℕ × Unit {0}) A) (f : F) (item : ℕ → A) (calls : (i : ℕ) (y : A) (q : F) → Called g f (i, tt) y q → (q ≡ f) × (y ≡ item i)) where
+  from_each : (n i k : ℕ) (ys : List A) (p : F) (d : A) → p ≡ f → IsFromFnResultFrom g p ys i n → k < n → get_or ys (i + k) d ≡ item (i + k)
+  from_each zero i k ys p d e h l = absurd (omega arith)
+  from_each (suc n) i zero ys p d e h l =
+      let first : h.1 ≡ item i = (calls i h.1 h.0 (subst (λ (z : F). Called g z (i, tt) h.1 h.0) e h.3)).1 in
+      let at : i + 0 ≡ i = omega arith in
+      rw at (h.2.1 d ∙ first)
+  from_each (suc n) i (suc k) ys p d e h l =
+      let same : h.0 ≡ f = (calls i h.1 h.0 (subst (λ (z : F). Called g z (i, tt) h.1 h.0) e h.3)).0 in
+      let at : i + suc k ≡ i + 1 + k = omega arith in
+      rw at (from_each n (i + 1) k ys h.0 d same h.4 (omega arith))
 
-  pub ends : (out : List A) (i : ℕ) → n ≤ i → Filled read size n bytes at out i → out ≡ list_at read size n bytes at
-  ends out i h f =
-      let e : i ≡ n = omega (arith, f.most) in
-      sym (take_all i out (rw f.count h)) ∙ f.is ∙ ap (λ (k : ℕ). list_at read size k bytes at) e
+  pub made_by : (n : ℕ) (ys : List A) → IsFromFnResultFrom g f ys 0 n → (i : ℕ) (d : A) → i < n → get_or ys i d ≡ item i
+  made_by n ys h i d l = rw zero-add at (from_each n 0 i ys f d refl h l)

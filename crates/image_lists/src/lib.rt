@@ -4,9 +4,8 @@
 
 mod masks;
 mod read;
-mod types;
 mod write;
 
 pub use masks::{set_mask, type_mask};
 pub use read::list_at;
-pub use write::{put_list, put_zeros};
+pub use write::put_list;

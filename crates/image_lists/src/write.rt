@@ -1,5 +1,5 @@
-// Items of one type, written one after another; zero bytes.
-ghost use Rattle.std.specs.Prelude.{◌≡◌, ◌+◌, ◌*◌, ◌≤◌, length, replicate};
+// Items of one type, written one after another.
+ghost use Rattle.std.specs.Prelude.{◌≡◌, ◌+◌, ◌*◌, ◌≤◌, length};
 ghost use Rattle.codec.specs.Put.{put};
 ghost use Rattle.image_lists.specs.Lists.{list_bytes};
 
@@ -12,11 +12,4 @@ pub fn put_list<T: Stored>(dst: &mut [u8], from: usize, xs: &[T])
     for (i, x) in xs.iter().enumerate() {
         x.put(dst, from + T::SIZE * i);
     }
-}
-
-pub fn put_zeros(dst: &mut [u8], at: usize, n: usize)
-    requires { at + n ≤ length dst.old }
-    ensures { dst.new ≡ put at (replicate n 0) dst.old }
-{
-    dst[at..at + n].fill(0);
 }

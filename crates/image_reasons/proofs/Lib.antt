@@ -1,4 +1,5 @@
 pub mod Every
+pub mod Chains
 pub mod Ascends
 pub mod Numbers
 pub mod Meaning

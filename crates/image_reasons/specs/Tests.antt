@@ -1,5 +1,5 @@
 -- Tests of bytes from a place on, of which the reasons for 9 are made. Document 01, 'State image'.
-use Rattle.std.specs.Prelude.{ℕ, ◌+◌, ◌*◌, ◌%◌, Bool, not, ◌||◌, List, leb, eqb, length, get_or}
+use Rattle.std.specs.Prelude.{ℕ, ◌+◌, ◌-◌, ◌*◌, ◌/◌, ◌%◌, Bool, not, ◌||◌, List, leb, eqb, length, get_or, take, drop}
 use Rattle.d3d9_types.specs.Light.{default_light}
 use Rattle.codec.specs.Little.{number_at}
 use Rattle.codec.specs.Light.{light_bytes}
@@ -19,6 +19,10 @@ plain_at bytes at k = plain_word (number_at 4 bytes (at + 4 * k))
 -- n floats, each plain
 unfoldable pub nan_free : ℕ → List ℕ → ℕ → Bool
 nan_free n bytes at = every_below n (plain_at bytes at)
+
+-- the floats of a record of n bytes, behind the first of them
+abbrev pub plain_record : ℕ → ℕ → List ℕ → Bool
+plain_record from n bytes = nan_free (length (take (n - from) (drop from bytes)) / 4) (take (n - from) (drop from bytes)) 0
 
 -- the 25 floats of a light, behind its type, which is a number
 abbrev pub plain_light : List ℕ → ℕ → ℕ → Bool

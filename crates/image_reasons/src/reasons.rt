@@ -1,11 +1,9 @@
 // The reasons to refuse an image. Document 01, 'State image'; document 02, T-05.
-ghost use Rattle.std.specs.Prelude.{◌≡◌, ◌≤◌, length};
-ghost use Rattle.image_reasons.specs.Length.{image_length};
+ghost use Rattle.std.specs.Prelude.{◌≡◌, ◌≤◌};
 ghost use Rattle.image_reasons.specs.Reasons.{count_of, numbers_refused, entries_refused, slots_refused, another_nan, refused};
 
 use crate::tests::{
-    bits_defined, entries_ascending, entries_nan_free, flags_ok, lights_nan_free, nan_free,
-    slots_default, zeros_at,
+    all_zero, bits_defined, entries_ascending, flags_ok, nan_free, records_nan_free, slots_default,
 };
 use codec::Stored;
 
@@ -16,12 +14,8 @@ pub const TAIL_LENGTH: usize = 20;
 
 pub const IMAGE_LENGTH: usize = ENTRIES_END + TAIL_LENGTH;
 
-// The clause on the length stands at four private functions: a struct around the slice would need a constructor under the
-// same clause, for the one caller below.
-
-// `|`, since all four are read: the four tests are one expression.
-fn numbers_refused(s: &[u8]) -> bool
-    requires { image_length ≤ length s.now }
+// `|` of tests that are made: an image that is accepted is looked at whole, and the tests are one expression.
+fn numbers_refused(s: &[u8; IMAGE_LENGTH]) -> bool
     ensures { result ≡ numbers_refused s.now }
 {
     let mask = 255 < u32::read(s, 24_220);
@@ -31,36 +25,35 @@ fn numbers_refused(s: &[u8]) -> bool
     mask | zero | index | count
 }
 
-#[tactic(auto, unfolding(crate::specs::Reasons::entries_refused))]
-fn entries_refused(s: &[u8]) -> bool
-    requires { (image_length ≤ length s.now) × (count_of s.now ≤ 56) }
+// Both tests of entries take bytes and cut them into entries themselves: `flags` and `ascends` of specs/Tests are of bytes, and so would not
+// state a test of entries that were cut once.
+fn entries_refused(s: &[u8; IMAGE_LENGTH]) -> bool
+    requires { count_of s.now ≤ 56 }
     ensures { result ≡ entries_refused s.now }
 {
-    let n = u16::read(s, 17_930) as usize;
-    let from = 17_932 + 112 * n;
-    !entries_ascending(s, 17_932, n)
-        || !flags_ok(s, 17_932, n)
-        || !zeros_at(s, from, ENTRIES_END - from)
+    let n = usize::from(u16::read(s, 17_930));
+    let end = 17_932 + 112 * n;
+    let in_use = &s[17_932..end];
+    !entries_ascending(in_use) | !flags_ok(in_use) | !all_zero(&s[end..ENTRIES_END])
 }
 
-fn slots_refused(s: &[u8]) -> bool
-    requires { image_length ≤ length s.now }
+fn slots_refused(s: &[u8; IMAGE_LENGTH]) -> bool
     ensures { result ≡ slots_refused s.now }
 {
     let enabled = u8::read(s, 17_924);
     let defined = u8::read(s, 17_925);
-    !bits_defined(enabled, defined) || !slots_default(s, 17_092, defined)
+    !bits_defined(enabled, defined) || !slots_default(s, defined)
 }
 
-#[tactic(auto, unfolding(crate::specs::Reasons::another_nan))]
-fn another_nan(s: &[u8]) -> bool
-    requires { image_length ≤ length s.now }
+fn another_nan(s: &[u8; IMAGE_LENGTH]) -> bool
     ensures { result ≡ another_nan s.now }
 {
-    !(nan_free(s, 0, 4_273)
-        && lights_nan_free(s, 17_092)
-        && entries_nan_free(s, 17_932)
-        && nan_free(s, 24_204, 3))
+    let (lights, _) = s[17_092..17_924].as_chunks::<104>();
+    let (entries, _) = s[17_932..ENTRIES_END].as_chunks::<112>();
+    !(nan_free(&s[..17_092])
+        & records_nan_free(lights, 4)
+        & records_nan_free(entries, 12)
+        & nan_free(&s[ENTRIES_END..24_216]))
 }
 
 // Whether some reason for 9 holds.
@@ -68,9 +61,8 @@ fn another_nan(s: &[u8]) -> bool
 pub fn image_refused(s: &[u8]) -> bool
     ensures { result ≡ refused s.now }
 {
-    s.len() != IMAGE_LENGTH
-        || numbers_refused(s)
-        || entries_refused(s)
-        || slots_refused(s)
-        || another_nan(s)
+    let Some(image) = s.as_array::<IMAGE_LENGTH>() else {
+        return true;
+    };
+    numbers_refused(image) || entries_refused(image) || slots_refused(image) || another_nan(image)
 }

@@ -1,9 +1,10 @@
-// Images. A call is the one by value, on a copy of the state; a state read is stored back whole.
+// Images. Writing is the call by value, on a copy of the state; a state that is read is stored whole.
 ghost use Rattle.std.specs.Prelude.{◌≡◌};
 ghost use Rattle.lent_images.specs.Calls.{ff_state_read_image, ff_state_write_image};
 
+use calls::{Refusal, number};
 use ff_state::FfState;
-use image::{NotAnImage, WrongLength, read_image, write_image};
+use image::{read_image, write_image};
 
 // 0, or 9 where the bytes are no image, as C reads it: the state is as it was.
 #[tactic(auto, unfolding(image::specs::Read::read_number))]
@@ -15,7 +16,7 @@ pub fn ff_state_read_image(s: &mut FfState, bytes: &[u8]) -> u32
             *s = read;
             0
         }
-        Err(NotAnImage) => 9,
+        Err(e) => u32::from(Refusal::from(e)),
     }
 }
 
@@ -24,8 +25,5 @@ pub fn ff_state_read_image(s: &mut FfState, bytes: &[u8]) -> u32
 pub fn ff_state_write_image(s: &FfState, bytes: &mut [u8]) -> u32
     ensures { (result, bytes.new) ≡ ff_state_write_image s.now bytes.old }
 {
-    match write_image(*s, bytes) {
-        Ok(()) => 0,
-        Err(WrongLength) => 4,
-    }
+    number(write_image(*s, bytes).map_err(Refusal::from))
 }

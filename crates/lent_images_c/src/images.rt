@@ -1,4 +1,4 @@
-// Images. A call is the one by value, on a copy of the state; a state read is stored back whole.
+// Images. Writing is the call by value, on a copy of the state; a state that is read is stored whole.
 ghost use Rattle.std.specs.Prelude.{◌≡◌};
 ghost use Rattle.lent_images.specs.Calls.{ff_state_read_image, ff_state_write_image};
 

@@ -1,7 +1,6 @@
-// Refresh over a state that is lent by reference: the dirty bits are taken in place, and only the parts that a dirty section is made from are copied out.
+// Refresh over a state that is lent by reference, as C calls it: the dirty bits are taken in place, and a number tells how it went.
 #![tactic(auto)]
 
-mod dirty;
 mod host;
 mod mirror;
 

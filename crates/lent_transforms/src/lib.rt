@@ -1,5 +1,5 @@
 // The transforms of a state lent by reference, stored in place; `lent_transforms_c` exports them.
-#![tactic(auto)]
+#![tactic(auto, unfolding(ff_state::specs::Transforms::transform_number))]
 
 mod transforms;
 

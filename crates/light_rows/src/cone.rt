@@ -6,7 +6,7 @@ use crate::floor::floored;
 use d3d9_types::D3DLIGHT_SPOT;
 use float32::cos;
 
-#[derive(Clone, Copy)]
+#[derive(Clone, Copy, Default)]
 pub struct Cone {
     pub scale: f32,
     pub offset: f32,
@@ -25,8 +25,5 @@ pub fn cone_of(kind: u32, theta: f32, phi: f32) -> Cone
             offset: -cp * scale,
         };
     }
-    Cone {
-        scale: 0.0,
-        offset: 0.0,
-    }
+    Cone::default()
 }

@@ -11,7 +11,7 @@ use d3d9_types::{
 };
 use directions::unit_direction;
 use matrix::{view_transform_dir, view_transform_point};
-use rows::write_row;
+use rows::write_rows;
 
 #[derive(Clone, Copy)]
 pub struct LightRows {
@@ -80,24 +80,27 @@ fn light_rows(view: D3DMATRIX, l: D3DLIGHT9) -> LightRows
     }
 }
 
-#[tactic(auto, using(rows::proofs::Floats::six_rows))]
 fn write_light(dst: &mut [f32], at: usize, rows: LightRows)
     requires { at + 24 ≤ length dst.old }
     ensures { dst.new ≡ sets dst.old at (floats (six_rows rows)) }
 {
-    write_row(dst, at, rows.position);
-    write_row(dst, at + 4, rows.direction);
-    write_row(dst, at + 8, rows.diffuse);
-    write_row(dst, at + 12, rows.ambient);
-    write_row(dst, at + 16, rows.attenuations);
-    write_row(dst, at + 20, rows.specular);
+    let six = [
+        rows.position,
+        rows.direction,
+        rows.diffuse,
+        rows.ambient,
+        rows.attenuations,
+        rows.specular,
+    ];
+    write_rows(dst, at, &six);
 }
 
+// A loop of its own: `write_rows` of `rows` says why.
 pub fn write_lights(dst: &mut [f32], view: D3DMATRIX, lights: &[D3DLIGHT9])
     requires { length dst.old ≡ 24 * length lights.now }
     ensures { dst.new ≡ floats (lights_rows view lights.now) }
 {
-    for i in 0..lights.len() {
-        write_light(dst, 24 * i, light_rows(view, lights[i]));
+    for (i, light) in lights.iter().enumerate() {
+        write_light(dst, 24 * i, light_rows(view, *light));
     }
 }

@@ -135,22 +135,22 @@ pub kind_small : (t : ℕ) (ls : List D3DLIGHT9) → length ls ≤ 7 → kind_ma
 kind_small t ls few = lt_of_lt_of_le (kind_mask_lt t ls) (pow_mono {i = length ls} {j = 7} few)
 
 -- some lights are left and the others done, of which the mask is
-module _ (t mask n : ℕ) (all rest done : List D3DLIGHT9) (parts : rest ++ done ≡ take n all) (is : mask ≡ kind_mask t done) where
+module _ (t mask : ℕ) (all rest done : List D3DLIGHT9) (parts : rest ++ done ≡ all) (is : mask ≡ kind_mask t done) where
   -- where one is left, at most seven are done
-  pub kind_room : n ≤ 8 → (more : List D3DLIGHT9) (l : D3DLIGHT9) → rest ≡ more ++ (l ∷ []) → mask < 128
+  pub kind_room : length all ≤ 8 → (more : List D3DLIGHT9) (l : D3DLIGHT9) → rest ≡ more ++ (l ∷ []) → mask < 128
   kind_room few more l e =
       let long = simp length-append at (ap length parts) in
       let left = simp length-append at (ap length e) in
-      rw is (kind_small t done (omega (arith, long, left, length-take n all)))
+      rw is (kind_small t done (omega (arith, long, left)))
 
   pub kind_turn : (more : List D3DLIGHT9) (l : D3DLIGHT9) → rest ≡ more ++ (l ∷ [])
-      → (more ++ (l ∷ done) ≡ take n all) × (mask * 2 + bool_byte (eqb l.type_ t) ≡ kind_mask t (l ∷ done))
+      → (more ++ (l ∷ done) ≡ all) × (mask * 2 + bool_byte (eqb l.type_ t) ≡ kind_mask t (l ∷ done))
   kind_turn more l e = (
     sym (append_assoc more (l ∷ []) done) ∙ ap (λ (r : List D3DLIGHT9). r ++ done) (sym e) ∙ parts,
     ap (λ (m : ℕ). m * 2 + bool_byte (eqb l.type_ t)) is ∙ kind_more t l done,
   )
 
-  pub kind_done : length rest ≡ 0 → mask ≡ kind_mask t (take n all)
+  pub kind_done : length rest ≡ 0 → mask ≡ kind_mask t all
   kind_done e = is ∙ ap (kind_mask t) (ap (λ (r : List D3DLIGHT9). r ++ done) (sym (nil_from_length rest e)) ∙ parts)
 
 pub turn_fits : (m : ℕ) (b : Bool) → m < 128 → Fits w8 (m * 2 + bool_byte b)

@@ -15,7 +15,7 @@ use Rattle.light_table.specs.Overflow.{lower_bound, find_entry, place, ascending
 use Rattle.light_table.specs.declared.entry.OverflowLight.{OverflowLight}
 use Rattle.std.specs.Prelude.{Result, Ok, Err, is_ok}
 use Rattle.lemmas.proofs.Lists.{take-replicate}
-pub use Rattle.light_table.proofs.LowerBound.{bound_most, place_is, stored_below, stored_index}
+pub use Rattle.light_table.proofs.LowerBound.{bound_most, bound_cons, place_is, stored_below, stored_index}
 pub use Rattle.light_table.proofs.Insertion.{length_inserted}
 
 -- ---- a search, entry by entry
@@ -39,12 +39,10 @@ later_stored (Err at) = refl
 
 module _ (x : OverflowLight) (es : List OverflowLight) (i : ℕ) where
   bound_passed : x.index < i → lower_bound (x ∷ es) i ≡ suc (lower_bound es i)
-  unfolding lower_bound
-  bound_passed h = rw (lt-ltb x.index i h)
+  bound_passed h = rw (bound_cons x es i, lt-ltb x.index i h)
 
   bound_stopped : i ≤ x.index → lower_bound (x ∷ es) i ≡ 0
-  unfolding lower_bound
-  bound_stopped h = rw (le-ltb x.index i h)
+  bound_stopped h = rw (bound_cons x es i, le-ltb x.index i h)
 
   pub find_passed : x.index < i → find_entry (x ∷ es) i ≡ one_later (find_entry es i)
   unfolding find_entry
@@ -112,7 +110,8 @@ unfolding lower_bound ascending
 inserted_ascending from [] i e q l a n = ascending_cons from e [] (omega arith) refl
 inserted_ascending from (x ∷ es) i e q l a n =
     let b = both from x es a in
-    branch (λ (k : ℕ). ascending from (put_in k e (x ∷ es)) ≡ true) (ltb x.index i) (suc (lower_bound es i)) 0
+    rw (bound_cons x es i)
+    (branch (λ (k : ℕ). ascending from (put_in k e (x ∷ es)) ≡ true) (ltb x.index i) (suc (lower_bound es i)) 0
     (λ (t : ltb x.index i ≡ true).
     let p = ltb-true x.index i t in
     ascending_cons from x (put_in (lower_bound es i) e es) b.0
@@ -120,7 +119,7 @@ inserted_ascending from (x ∷ es) i e q l a n =
     (λ (t : ltb x.index i ≡ false).
     let p = ltb-false x.index i t in
     let d = eqb-false x.index i (sym (ok_if (eqb x.index i)) ∙ sym (ap (λ (f : Result ℕ ℕ). is_ok f) (find_stopped x es i p)) ∙ n) in
-    ascending_cons from e (x ∷ es) (omega arith) (ascending_cons (suc e.index) x es (omega arith) b.1))
+    ascending_cons from e (x ∷ es) (omega arith) (ascending_cons (suc e.index) x es (omega arith) b.1)))
 
 -- ---- the table after an insertion among its first n entries
 

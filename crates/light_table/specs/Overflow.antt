@@ -1,5 +1,6 @@
 -- The overflow entries, by ascending index: where an index stands, or would stand. Document 01, 'Rust forms to recast': "`BTreeMap` becomes 56 sorted entries with a count".
 use Rattle.std.specs.Prelude.{ℕ, suc, ◌-◌, min, Bool, true, cond, ◌&&◌, Result, Ok, Err, List, [], ◌∷◌, ◌++◌, ltb, leb, eqb, length, take, drop, get_or}
+use Rattle.std.specs.List.{prefix_len}
 use Rattle.light_table.specs.Entry.{zero_entry}
 use Rattle.light_table.specs.declared.entry.OverflowLight.{OverflowLight}
 
@@ -8,8 +9,7 @@ used_count n = min n 56
 
 -- how many entries at the front have a lower index
 unfoldable pub lower_bound : List OverflowLight → ℕ → ℕ
-lower_bound [] i = 0
-lower_bound (e ∷ es) i = cond (ltb e.index i) (suc (lower_bound es i)) 0
+lower_bound es i = prefix_len (λ (e : OverflowLight). ltb e.index i) es
 
 -- Ok of where an index stands, or Err of where it would stand
 unfoldable pub find_entry : List OverflowLight → ℕ → Result ℕ ℕ

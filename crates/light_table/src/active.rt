@@ -1,16 +1,15 @@
 // Lists of active lights: of a type that contributes, and enabled. Packing wants them by ascending index.
-ghost use Rattle.std.specs.Prelude.{◌≡◌, ◌≤◌, ◌<◌, take, ◌++◌};
-ghost use Rattle.light_table.specs.Overflow.{used_count};
-ghost use Rattle.light_table.specs.Active.{active_slots, is_active, active_overflow, listed, no_lights, pushed, push_all, kind_mask, low_bits, four_bytes};
+ghost use Rattle.std.specs.Prelude.{◌≡◌, ◌≤◌, length, ◌++◌};
+ghost use Rattle.light_table.specs.Active.{active_slots, is_active, active_overflow, listed, no_lights, pushed, push_all, kind_mask, low_bits, masks_of, four_bytes};
 
 use crate::entry::OverflowLight;
 use crate::kinds::light_type_contributes;
-use crate::overflow::used_count;
-use d3d9_types::D3DLIGHT9;
+use d3d9_types::{D3DLIGHT_DIRECTIONAL, D3DLIGHT_SPOT, D3DLIGHT9};
 use words::has_bit;
 
-// The first `len` are used; the others are the default light. An array and a count, since there is no heap;
-// `kind_mask` alone asks that `len` is at most 8, so no type invariant says it.
+// The first `len` are used; the others are the default light: an `ArrayVec` says nothing of what is behind its items, and `listed` of specs/Active does.
+// No invariant says that `len` is at most 8: it would be a field of the record, which `listed` and `pushed` there make at any limit.
+// Nor has it a method for the lights in use: it would ask that `len` is at most 8, as `&list.lights[..list.len]` does where one is wanted.
 #[derive(Clone, Copy)]
 pub struct ActiveLights {
     pub lights: [D3DLIGHT9; 8],
@@ -24,8 +23,8 @@ pub struct LightMasks {
     pub spot: u8,
 }
 
-pub fn is_active(e: OverflowLight) -> bool
-    ensures { result ≡ is_active e }
+fn is_active(e: &OverflowLight) -> bool
+    ensures { result ≡ is_active e.now }
 {
     e.enabled != 0 && light_type_contributes(e.light.type_)
 }
@@ -41,7 +40,9 @@ impl ActiveLights {
         }
     }
 
-    // One more, up to the limit.
+    // One more, up to the limit. That it is at most 8 is asked here and by those that push: `limit.min(8)` would ask nothing, and each `ensures` would say
+    // `min limit 8` where it says `limit`. Held in the list it would be a field more of what `listed` makes, and its bound an invariant. Of both sources by
+    // `chain` and `take(limit)`, the items would still be put into the array and counted one by one, as here.
     #[tactic(auto, unfolding(crate::specs::Active::pushed))]
     fn push(&mut self, limit: usize, light: D3DLIGHT9)
         requires { limit ≤ 8 }
@@ -52,48 +53,45 @@ impl ActiveLights {
             self.len += 1;
         }
     }
-}
 
-// `limit` is 4 or 8, by the key; that it is at most 8 is said where a light is pushed, and by those that push.
-pub fn push_slots(lights: [D3DLIGHT9; 8], mask: u8, limit: usize) -> ActiveLights
-    requires { limit ≤ 8 }
-    ensures { result ≡ push_all limit no_lights (active_slots mask lights) }
-{
-    let mut list = ActiveLights::new();
-    for (i, light) in lights.iter().enumerate() {
-        if has_bit(mask, i as u32) {
-            list.push(limit, *light);
+    fn push_slots(&mut self, limit: usize, lights: &[D3DLIGHT9; 8], mask: u8)
+        requires { limit ≤ 8 }
+        ensures { self.new ≡ push_all limit self.old (active_slots mask lights.now) }
+    {
+        for (i, light) in lights.iter().enumerate() {
+            if has_bit(mask, i as u32) {
+                self.push(limit, *light);
+            }
         }
     }
-    list
-}
 
-fn push_overflow(entries: &[OverflowLight], limit: usize, first: ActiveLights) -> ActiveLights
-    requires { limit ≤ 8 }
-    ensures { result ≡ push_all limit first (active_overflow entries.now) }
-{
-    let mut list = first;
-    for e in entries {
-        if is_active(*e) {
-            list.push(limit, e.light);
+    fn push_entries(&mut self, limit: usize, entries: &[OverflowLight])
+        requires { limit ≤ 8 }
+        ensures { self.new ≡ push_all limit self.old (active_overflow entries.now) }
+    {
+        for e in entries {
+            if is_active(e) {
+                self.push(limit, e.light);
+            }
         }
     }
-    list
 }
 
-// The first `limit` of the active lights of slots and table, whose parts come as the state holds them: an array and a count.
+// The first `limit` of the active lights of the slots and of the entries.
+#[tactic(auto, using(crate::proofs::Compaction::pushed_two))]
 pub fn active_lights(
-    lights: [D3DLIGHT9; 8],
+    lights: &[D3DLIGHT9; 8],
     mask: u8,
-    entries: [OverflowLight; 56],
-    count: u16,
+    entries: &[OverflowLight],
     limit: usize,
 ) -> ActiveLights
     requires { limit ≤ 8 }
-    ensures { result ≡ listed limit (active_slots mask lights ++ active_overflow (take (used_count count) entries)) }
+    ensures { result ≡ listed limit (active_slots mask lights.now ++ active_overflow entries.now) }
 {
-    let first = push_slots(lights, mask, limit);
-    push_overflow(&entries[..used_count(count)], limit, first)
+    let mut list = ActiveLights::new();
+    list.push_slots(limit, lights, mask);
+    list.push_entries(limit, entries);
+    list
 }
 
 // The n lowest bits.
@@ -106,18 +104,31 @@ pub fn low_bits(n: usize) -> u8
 }
 
 // Bit i says whether light i has this type, a number of C's record.
-pub fn kind_mask(list: ActiveLights, kind: u32) -> u8
-    requires { list.len ≤ 8 }
-    ensures { result ≡ kind_mask kind (take list.len list.lights) }
+fn kind_mask(lights: &[D3DLIGHT9], kind: u32) -> u8
+    requires { length lights.now ≤ 8 }
+    ensures { result ≡ kind_mask kind lights.now }
 {
     let mut mask = 0u8;
-    for light in list.lights[..list.len].iter().rev() {
-        mask = mask * 2 + (light.type_ == kind) as u8;
+    for light in lights.iter().rev() {
+        mask = mask * 2 + u8::from(light.type_ == kind);
     }
     mask
 }
 
-// Four bytes as a number, the first lowest: the order of document 01, by its name there.
+// The masks of a list of lights: bit i is its light i.
+#[tactic(auto, unfolding(crate::specs::Active::masks_of))]
+pub fn masks_of(lights: &[D3DLIGHT9]) -> LightMasks
+    requires { length lights.now ≤ 8 }
+    ensures { result ≡ masks_of lights.now }
+{
+    LightMasks {
+        active: low_bits(lights.len()),
+        directional: kind_mask(lights, D3DLIGHT_DIRECTIONAL),
+        spot: kind_mask(lights, D3DLIGHT_SPOT),
+    }
+}
+
+// Four bytes as a number, the first lowest: the order of document 01. By a name, which the definition has too: two crates make such numbers.
 #[tactic(auto, unfolding(crate::specs::Active::four_bytes))]
 pub fn four_bytes(a: u8, b: u8, c: u8, d: u8) -> u32
     ensures { result ≡ four_bytes a b c d }

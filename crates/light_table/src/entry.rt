@@ -13,35 +13,15 @@ pub struct OverflowLight {
     pub light: D3DLIGHT9,
 }
 
-// The light of an unused entry: every number 0.
-#[tactic(auto, unfolding(crate::specs::Entry::zero_light))]
+// The light of an unused entry: every number 0. The default light differs in these three.
+#[tactic(auto, unfolding(crate::specs::Entry::zero_light, d3d9_types::specs::Light::default_light))]
 pub fn zero_light() -> D3DLIGHT9
     ensures { result ≡ zero_light }
 {
-    let black = D3DCOLORVALUE {
-        r: 0.0,
-        g: 0.0,
-        b: 0.0,
-        a: 0.0,
-    };
-    let origin = D3DVECTOR {
-        x: 0.0,
-        y: 0.0,
-        z: 0.0,
-    };
     D3DLIGHT9 {
         type_: 0,
-        diffuse: black,
-        specular: black,
-        ambient: black,
-        position: origin,
-        direction: origin,
-        range: 0.0,
-        falloff: 0.0,
-        attenuation0: 0.0,
-        attenuation1: 0.0,
-        attenuation2: 0.0,
-        theta: 0.0,
-        phi: 0.0,
+        diffuse: D3DCOLORVALUE::default(),
+        direction: D3DVECTOR::default(),
+        ..D3DLIGHT9::default()
     }
 }

@@ -7,9 +7,7 @@ mod entry;
 mod kinds;
 mod overflow;
 
-pub use active::{
-    ActiveLights, LightMasks, active_lights, four_bytes, kind_mask, low_bits, push_slots,
-};
+pub use active::{ActiveLights, LightMasks, active_lights, four_bytes, low_bits, masks_of};
 pub use entry::{OverflowLight, zero_light};
 pub use kinds::light_type_contributes;
 pub use overflow::{find, insert_at, used_count};

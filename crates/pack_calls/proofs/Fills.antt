@@ -23,7 +23,8 @@ use Rattle.sections.proofs.Tiles.{fits_mirror}
 use Rattle.sections.specs.declared.key.FfVsKey.{FfVsKey}
 use Rattle.pack_calls.specs.Fill.{mask_number, fill_bytes, fill_number, ff_fill_section}
 use Rattle.packing.specs.Inputs.{mask_accepted, inputs_of}
-use Rattle.packing.specs.Pack.{state_count, pack_number}
+use Rattle.packing.specs.Pack.{PackOutcome, pack_outcome, pack_inputs, pack_section, state_count, state_rows, pack_number}
+use Rattle.packing.specs.declared.answer.PackError.{PackError}
 use Rattle.packing.specs.declared.answer.PackError.TheVariants.{WrongLength, WrongMask}
 
 -- document 01: "4, the destination is not 4 times the section's rows; then, for LIGHTS, 5"; a float is 4 bytes
@@ -63,7 +64,42 @@ module _ (σ : Section) (s : FfState) (k : FfVsKey) {rows : ℕ} (is : rows ≡ 
     fill_right e = rw (eq-eqb (length dst) (16 * state_count σ s k) (e ∙ four_rows))
 
     -- the state is that of the image
-    pub fill_done : (image : List ℕ) → s ≡ state_of image → refused image ≡ false → length dst ≡ 4 * (4 * rows)
+    fill_done : (image : List ℕ) → s ≡ state_of image → refused image ≡ false → length dst ≡ 4 * (4 * rows)
         → answered (mask_number σ k s) (fill_bytes σ k s) dst ≡ ff_fill_section σ image k dst
     unfolding reading call_code
     fill_done image read r e = rw (r, ← read, fill_right e, next_zero (mask_number σ k s))
+
+    module _ (image : List ℕ) (read : s ≡ state_of image) (r : refused image ≡ false) (e : length dst ≡ 4 * (4 * rows)) where
+      by_mask : (b : Bool) → mask_accepted σ k (inputs_of s) ≡ b
+          → answered (pack_number (cond b (Ok tt) (Err WrongMask))) (fill_bytes σ k s) dst ≡ ff_fill_section σ image k dst
+      by_mask b m =
+          sym (ap (λ (x : Bool). answered (pack_number (cond x (Ok tt) (Err WrongMask))) (fill_bytes σ k s) dst) m) ∙ fill_done image read r e
+
+      pub fill_five : mask_accepted σ k (inputs_of s) ≡ false → answer 5 dst ≡ ff_fill_section σ image k dst
+      unfolding pack_number answered
+      fill_five = by_mask false
+
+      pub fill_packed : mask_accepted σ k (inputs_of s) ≡ true → answer 0 (fill_bytes σ k s) ≡ ff_fill_section σ image k dst
+      unfolding pack_number answered
+      fill_packed = by_mask true
+
+-- what packing answers of floats as many as the section's: the rows, or 5
+module _ (σ : Section) (s : FfState) (k : FfVsKey) (xs : List Float) (long : length xs ≡ 4 * state_count σ s k) where
+  by_mask_is : {b : Bool} → mask_accepted σ k (inputs_of s) ≡ b
+      → pack_section σ s k xs ≡ cond b (pack_outcome (Ok tt) (state_rows σ s k)) (pack_outcome (Err WrongMask) xs)
+  unfolding pack_section pack_inputs
+  by_mask_is m = rw (eq-eqb (length xs) (4 * state_count σ s k) long, m)
+
+  pub packed_is : (u : Unit) (ys : List Float) → pack_outcome (Ok u) ys ≡ pack_section σ s k xs → (mask_accepted σ k (inputs_of s) ≡ true) × (ys ≡ state_rows σ s k)
+  packed_is u ys h = go (mask_accepted σ k (inputs_of s)) refl
+    where
+      go : (b : Bool) → mask_accepted σ k (inputs_of s) ≡ b → (mask_accepted σ k (inputs_of s) ≡ true) × (ys ≡ state_rows σ s k)
+      go true q = (q, ap (λ (o : PackOutcome). o.floats) (h ∙ by_mask_is q))
+      go false q = let told = ap (λ (o : PackOutcome). o.answer) (h ∙ by_mask_is q) in absurd (cc told)
+
+  pub refused_is : (e : PackError) (ys : List Float) → pack_outcome (Err e) ys ≡ pack_section σ s k xs → (mask_accepted σ k (inputs_of s) ≡ false) × (e ≡ WrongMask)
+  refused_is e ys h = go (mask_accepted σ k (inputs_of s)) refl
+    where
+      go : (b : Bool) → mask_accepted σ k (inputs_of s) ≡ b → (mask_accepted σ k (inputs_of s) ≡ false) × (e ≡ WrongMask)
+      go true q = let told = ap (λ (o : PackOutcome). o.answer) (h ∙ by_mask_is q) in absurd (cc told)
+      go false q = let told = ap (λ (o : PackOutcome). o.answer) (h ∙ by_mask_is q) in (q, cc told)

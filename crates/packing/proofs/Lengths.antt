@@ -55,20 +55,21 @@ pub record SizedInputs (k : FfVsKey) (i : Inputs) : Type 0 where
   pub palette : length i.palette ≡ 256
   pub textures : length i.textures ≡ 8
 
-module _ (k : FfVsKey) (i : Inputs) (z : SizedInputs k i) where
-  pub lights_length : k.light_active_mask ≡ low_bits (length (packed_lights k i)) → 6 * length (packed_lights k i) ≡ light_count k
-  unfolding light_count
-  lights_length e =
-      let n : ℕ = length (packed_lights k i) in
-      mul_comm 6 n ∙ ap (λ (m : ℕ). m * 6) (sym (ap places e ∙ places_low n (few (light_limit k) (limit_small k) i.lights)))
+-- six rows for each light that is packed, under their mask
+pub lights_length : (k : FfVsKey) (i : Inputs) → k.light_active_mask ≡ low_bits (length (packed_lights k i)) → 6 * length (packed_lights k i) ≡ light_count k
+unfolding light_count
+lights_length k i e =
+    let n : ℕ = length (packed_lights k i) in
+    mul_comm 6 n ∙ ap (λ (m : ℕ). m * 6) (sym (ap places e ∙ places_low n (few (light_limit k) (limit_small k) i.lights)))
 
+module _ (k : FfVsKey) (i : Inputs) (z : SizedInputs k i) where
   lights-rows : (none : Bool) → eqb k.light_active_mask 0 ≡ none → (none || eqb k.light_active_mask (masks_of (packed_lights k i)).active) ≡ true
       → length (cond none [] (lights_rows i.view (packed_lights k i))) ≡ light_count k
   unfolding light_count lights_rows masks_of
   lights-rows true e m = rw (eqb-true k.light_active_mask 0 e, places-none)
   lights-rows false e m =
       length_rows_of (λ l. six_rows (light_rows i.view l)) 6 (λ l. refl) (packed_lights k i)
-      ∙ lights_length (eqb-true k.light_active_mask (low_bits (length (packed_lights k i))) m)
+      ∙ lights_length k i (eqb-true k.light_active_mask (low_bits (length (packed_lights k i))) m)
 
   pub rows-length : (σ : Section) → mask_accepted σ k i ≡ true → length (packed_rows σ k i) ≡ input_rows σ k i
   unfolding packed_rows mask_accepted world_view_rows projection_rows material_count palette_rows palette_count texture_rows texture_count

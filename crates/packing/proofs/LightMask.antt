@@ -9,7 +9,7 @@ use lib.Dec.{eqb}
 use lib.Ieee.{Float}
 use lib.ListN.{length, take}
 use lib.Seq.{take-take}
-use borrow.Author.Tests.{eq-eqb, ne_eqb, eqb-false}
+use borrow.Author.Tests.{eq-eqb, ne_eqb, eqb-true, eqb-false}
 use Rattle.lemmas.proofs.Tests.{neither}
 use Rattle.d3d9_types.specs.declared.light.D3DLIGHT9.{D3DLIGHT9}
 use Rattle.light_table.specs.Active.{low_bits, masks_of}
@@ -23,7 +23,7 @@ use Rattle.sections.specs.Key.{limit_of, light_limit}
 use Rattle.sections.specs.declared.key.FfVsKey.{FfVsKey}
 use Rattle.packing.specs.Inputs.{packed_lights, packed_rows, mask_accepted, inputs_of}
 use Rattle.packing.specs.Pack.{state_rows}
-use Rattle.packing.proofs.Lengths.{places-none}
+use Rattle.packing.proofs.Lengths.{places-none, lights_length}
 
 pub empty : (xs : List Float) → length xs ≡ 0 → xs ≡ []
 empty [] e = refl
@@ -56,6 +56,12 @@ module _ (s : FfState) (k : FfVsKey) where
   none-packed dst long e =
       rw (eq-eqb k.light_active_mask 0 e)
       (empty dst (omega (arith, long, ap places e ∙ places-none)))
+
+  -- a mask other than 0 that is accepted is theirs, so the section has six rows for each
+  pub some_counted : (k.light_active_mask ≡ 0 → ⊥) → mask_accepted Lights k (inputs_of s) ≡ true → light_count k ≡ 6 * length packed
+  unfolding mask_accepted masks_of
+  some_counted some m =
+      sym (lights_length k (inputs_of s) (eqb-true k.light_active_mask (low_bits (length packed)) (rw (ne_eqb k.light_active_mask 0 some) at m)))
 
   module _ (n : ℕ) (some : k.light_active_mask ≡ 0 → ⊥) (counted : n ≡ length packed) where
     pub its_accepted : k.light_active_mask ≡ low_bits n → mask_accepted Lights k (inputs_of s) ≡ true

@@ -1,4 +1,4 @@
--- The three outcomes of packing, by the tests that lead to them. Assumes nothing.
+-- The outcomes of packing past the test of the length. Assumes nothing.
 use Prim.Native.Nat.{◌*◌}
 use mathlib.Core.Path.{◌≡◌, refl, sym, ap, ◌∙◌}
 use mathlib.Core.Bool.{Bool, true, false, cond}
@@ -23,14 +23,6 @@ pub record Passed (σ : Section) (s : FfState) (k : FfVsKey) (dst : List Float) 
   pub packs : mask_accepted σ k (inputs_of s) ≡ true → (xs : List Float) → xs ≡ state_rows σ s k → pack_outcome (Ok tt) xs ≡ pack_section σ s k dst
 
 module _ (σ : Section) (s : FfState) (k : FfVsKey) (dst : List Float) {r : Result Unit PackError} (tested : r ≡ cond (eqb (length dst) (4 * state_count σ s k)) (Ok tt) (Err WrongLength)) where
-  pub failed : {e : PackError} → r ≡ Err e → pack_outcome (Err e) dst ≡ pack_section σ s k dst
-  unfolding pack_section pack_inputs
-  failed {e} is = go (eqb (length dst) (4 * state_count σ s k)) refl
-    where
-      go : (b : Bool) → eqb (length dst) (4 * state_count σ s k) ≡ b → pack_outcome (Err e) dst ≡ pack_section σ s k dst
-      go true q = let n = rw q at (sym tested ∙ is) in cc
-      go false q = rw q (ap (λ (a : Result Unit PackError). pack_outcome a dst) (sym is ∙ tested ∙ rw q))
-
   pub passed : {u : Unit} → r ≡ Ok u → Passed σ s k dst
   unfolding pack_section pack_inputs
   passed {u} is = go (eqb (length dst) (4 * state_count σ s k)) refl

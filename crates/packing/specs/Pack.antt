@@ -1,5 +1,5 @@
 -- Packing one section. Document 01, 'A refresh, from the top': it "does not look at HAS_RHW and refuses: 4, the destination is not 4 times the section's rows; then, for LIGHTS, 5".
-use Rattle.std.specs.Prelude.{ℕ, ◌*◌, cond, List, eqb, Result, Ok, Err, Float, length}
+use Rattle.std.specs.Prelude.{ℕ, ◌*◌, cond, List, eqb, Result, Ok, Err, Float, length, codes}
 use Rattle.sections.specs.declared.sections.Section.{Section}
 use Rattle.ff_state.specs.declared.state.FfState.{FfState}
 use Rattle.rows.specs.Rows.{floats}
@@ -42,3 +42,8 @@ unfoldable pub pack_number : Result Unit PackError → ℕ
 pack_number (Ok u) = 0
 pack_number (Err WrongLength) = 4
 pack_number (Err WrongMask) = 5
+
+-- what a refusal is in words
+abbrev pub pack_error_text : PackError → List ℕ
+pack_error_text WrongLength = codes "the destination is not as long as the section's rows"
+pack_error_text WrongMask = codes "the light mask is not that of the active lights"

@@ -1,6 +1,7 @@
 // What packing refuses. A refused call leaves the destination as it was.
-ghost use Rattle.std.specs.Prelude.{◌≡◌, ◌*◌, cond, eqb, Ok, Err};
+ghost use Rattle.std.specs.Prelude.{◌≡◌, ◌*◌, cond, eqb, Ok, Err, Some};
 ghost use Rattle.sections.specs.Counts.{section_rows};
+ghost use Rattle.packing.specs.Pack.{pack_error_text};
 
 use sections::{FfVsKey, Section, section_rows};
 use std::error::Error;
@@ -15,6 +16,8 @@ pub enum PackError {
 }
 
 impl fmt::Display for PackError {
+    ghost output = { λ e. Some (pack_error_text e) };
+
     fn fmt<W: fmt::Write>(&self, f: &mut fmt::Formatter<W>) -> fmt::Result {
         f.write_str(match self {
             PackError::WrongLength => "the destination is not as long as the section's rows",
@@ -25,7 +28,7 @@ impl fmt::Display for PackError {
 
 impl Error for PackError {}
 
-// Refuses a number of floats that is not the section's. Each fill is handed the state, the key and the destination, as document 01 has it.
+// Refuses a number of floats that is not the section's.
 pub fn fits(
     section: Section,
     key: FfVsKey,
@@ -35,7 +38,7 @@ pub fn fits(
     ensures { result ≡ cond (eqb length (4 * section_rows section key texture_mask)) (Ok tt) (Err PackError.WrongLength) }
 {
     let rows = section_rows(section, key, texture_mask);
-    if length == 4 * rows as usize {
+    if length == 4 * usize::from(rows) {
         return Ok(());
     }
     Err(PackError::WrongLength)

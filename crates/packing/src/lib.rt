@@ -5,11 +5,13 @@ mod answer;
 mod fill;
 mod lights;
 mod pack;
+mod write;
 
 pub use answer::PackError;
 pub use fill::{
-    fill_ambient_section, fill_fog_section, fill_material_section, fill_palette_section,
-    fill_proj_section, fill_tt_section, fill_wv_section,
+    fill_ambient_section, fill_fog_section, fill_lights_section, fill_material_section,
+    fill_palette_section, fill_proj_section, fill_tt_section, fill_wv_section,
 };
-pub use lights::fill_lights_section;
+pub use lights::mask_accepted;
 pub use pack::pack_section;
+pub use write::write_section;

@@ -1,29 +1,32 @@
-// The lights' section.
-ghost use Rattle.std.specs.Prelude.{◌≡◌};
-ghost use Rattle.sections.specs.declared.sections.Section.TheVariants.{Lights};
-ghost use Rattle.packing.specs.Pack.{pack_outcome, pack_section};
+// The active lights that are packed under a key: their mask, and their rows.
+ghost use Rattle.std.specs.Prelude.{◌≡◌, ◌*◌, length};
+ghost use Rattle.light_rows.specs.Light.{lights_rows};
+ghost use Rattle.rows.specs.Rows.{floats};
+ghost use Rattle.packing.specs.Inputs.{packed_lights, mask_accepted, inputs_of};
 
-use crate::answer::{PackError, fits};
-use ff_lights::resolve_active_lights;
+use ff_lights::active_of;
 use ff_state::FfState;
 use light_rows::write_lights;
 use light_table::low_bits;
 use sections::{FfVsKey, Section};
 
-// The length is tested before the mask.
-#[tactic(auto, unfolding(crate::specs::Pack::pack_section, crate::specs::Pack::pack_inputs))]
-pub fn fill_lights_section(s: FfState, key: FfVsKey, dst: &mut [f32]) -> Result<(), PackError>
-    ensures { pack_outcome result dst.new ≡ pack_section Lights s key dst.old }
+// Only the lights' section looks at the key's light mask: it is 0, or that of the lights that are packed.
+pub fn mask_accepted(section: Section, s: &FfState, key: FfVsKey) -> bool
+    ensures { result ≡ mask_accepted section key (inputs_of s.now) }
 {
-    fits(Section::Lights, key, s.tt_active_mask, dst.len())?;
-    let mask = key.light_active_mask;
-    if mask == 0 {
-        return Ok(());
+    match section {
+        Section::Lights if key.light_active_mask == 0 => true,
+        Section::Lights => key.light_active_mask == low_bits(active_of(s, key).len),
+        _ => true,
     }
-    let list = resolve_active_lights(s, key);
-    if mask != low_bits(list.len) {
-        return Err(PackError::WrongMask);
-    }
-    write_lights(dst, s.view, &list.lights[..list.len]);
-    Ok(())
+}
+
+// The rows of the lights that are packed.
+pub fn write_active_lights(s: &FfState, key: FfVsKey, dst: &mut [f32])
+    requires { length dst.old ≡ 24 * length (packed_lights key (inputs_of s.now)) }
+    ensures { dst.new ≡ floats (lights_rows s.now.view (packed_lights key (inputs_of s.now))) }
+{
+    let list = active_of(s, key);
+    let n = list.len;
+    write_lights(dst, s.view, &list.lights[..n]);
 }

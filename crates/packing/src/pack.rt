@@ -2,31 +2,26 @@
 ghost use Rattle.std.specs.Prelude.{◌≡◌};
 ghost use Rattle.packing.specs.Pack.{pack_outcome, pack_section};
 
-use crate::answer::PackError;
-use crate::fill::{
-    fill_ambient_section, fill_fog_section, fill_material_section, fill_palette_section,
-    fill_proj_section, fill_tt_section, fill_wv_section,
-};
-use crate::lights::fill_lights_section;
+use crate::answer::{PackError, fits};
+use crate::lights::mask_accepted;
+use crate::write::write_section;
 use ff_state::FfState;
 use sections::{FfVsKey, Section};
 
+// The length is tested before the mask. No section looks at HAS_RHW.
+#[tactic(auto, unfolding(crate::specs::Pack::pack_section, crate::specs::Pack::pack_inputs))]
 pub fn pack_section(
     section: Section,
-    s: FfState,
+    s: &FfState,
     key: FfVsKey,
     dst: &mut [f32],
 ) -> Result<(), PackError>
-    ensures { pack_outcome result dst.new ≡ pack_section section s key dst.old }
+    ensures { pack_outcome result dst.new ≡ pack_section section s.now key dst.old }
 {
-    match section {
-        Section::Wv => fill_wv_section(s, key, dst),
-        Section::Proj => fill_proj_section(s, key, dst),
-        Section::Material => fill_material_section(s, key, dst),
-        Section::Lights => fill_lights_section(s, key, dst),
-        Section::Palette => fill_palette_section(s, key, dst),
-        Section::Tt => fill_tt_section(s, key, dst),
-        Section::Fog => fill_fog_section(s, key, dst),
-        Section::Ambient => fill_ambient_section(s, key, dst),
+    fits(section, key, s.tt_active_mask, dst.len())?;
+    if !mask_accepted(section, s, key) {
+        return Err(PackError::WrongMask);
     }
+    write_section(section, s, key, dst);
+    Ok(())
 }

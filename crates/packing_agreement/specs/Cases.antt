@@ -82,10 +82,7 @@ row_is xs r a b c d = eqb (get_or xs (4 * r) 0) a && eqb (get_or xs (4 * r + 1) 
 
 abbrev translation : ℕ → ℕ → ℕ → D3DMATRIX
 translation x y z =
-    record {
-      r0 = identity.r0;
-      r1 = identity.r1;
-      r2 = identity.r2;
+    record identity {
       r3 = record { x = of_int binary32 (pos x); y = of_int binary32 (pos y); z = of_int binary32 (pos z); w = Numbers.one };
     }
 
@@ -98,20 +95,9 @@ p10 =
 -- a light of a type whose direction has this third part
 abbrev towards : ℕ → ℕ → D3DLIGHT9
 towards kind z =
-    record {
+    record default_light {
       type_ = kind;
-      diffuse = default_light.diffuse;
-      specular = default_light.specular;
-      ambient = default_light.ambient;
-      position = default_light.position;
       direction = record { x = Numbers.zero; y = Numbers.zero; z = of_int binary32 (pos z) };
-      range = default_light.range;
-      falloff = default_light.falloff;
-      attenuation0 = default_light.attenuation0;
-      attenuation1 = default_light.attenuation1;
-      attenuation2 = default_light.attenuation2;
-      theta = default_light.theta;
-      phi = default_light.phi;
     }
 
 -- the packed lights of a fresh state in which light 0 is this one, enabled

@@ -34,6 +34,11 @@ abbrev pub result_of : FfState → Result Taken RefreshError → Refreshed
 result_of s (Ok t) = acceptance t
 result_of s (Err e) = refusal (Err e) s
 
+-- what a caller has whose state was lent, and is s afterwards
+abbrev pub in_place : FfState → Result ℕ RefreshError → Refreshed
+in_place s (Ok bits) = acceptance (record { bits = bits; state = s })
+in_place s (Err e) = refusal (Err e) s
+
 -- by the answer
 unfoldable pub refresh_by : Result Unit RefreshError → FfState → FfVsKey → List Float → RefreshOutcome
 refresh_by (Ok u) s k m = refreshed (acceptance (take_ff_vs_dirty s)) (written sections (take_ff_vs_dirty s).bits s k m)

@@ -1,13 +1,10 @@
 // What refresh refuses.
-ghost use Rattle.std.specs.Prelude.{◌≡◌, Err};
-ghost use Rattle.sections.specs.declared.sections.Section.TheVariants.{Lights};
-ghost use Rattle.packing.specs.Inputs.{mask_accepted, inputs_of};
-ghost use Rattle.refresh.specs.Answer.{refresh_answer, refresh_number};
+ghost use Rattle.std.specs.Prelude.{◌≡◌, Some};
+ghost use Rattle.refresh.specs.Answer.{refresh_answer, refresh_error_text};
 
-use ff_lights::resolve_active_lights;
 use ff_state::FfState;
-use light_table::low_bits;
-use sections::{FfVsKey, MIRROR_FLOATS};
+use packing::mask_accepted;
+use sections::{FfVsKey, MIRROR_FLOATS, Section};
 use std::error::Error;
 use std::fmt;
 
@@ -22,6 +19,8 @@ pub enum RefreshError {
 }
 
 impl fmt::Display for RefreshError {
+    ghost output = { λ e. Some (refresh_error_text e) };
+
     fn fmt<W: fmt::Write>(&self, f: &mut fmt::Formatter<W>) -> fmt::Result {
         f.write_str(match self {
             RefreshError::WrongLength => "the mirror is not 1,115 rows long",
@@ -33,36 +32,10 @@ impl fmt::Display for RefreshError {
 
 impl Error for RefreshError {}
 
-impl RefreshError {
-    // Document 01's number, which C reads.
-    #[tactic(auto, unfolding(crate::specs::Answer::refresh_number))]
-    pub fn number(self) -> u32
-        ensures { result ≡ refresh_number (Err self) }
-    {
-        match self {
-            RefreshError::WrongLength => 4,
-            RefreshError::HasRhw => 8,
-            RefreshError::WrongMask => 5,
-        }
-    }
-}
-
-// Whether the key's light mask is 0 or that of the active lights.
-fn mask_accepted(s: FfState, key: FfVsKey) -> bool
-    ensures { result ≡ mask_accepted Lights key (inputs_of s) }
-{
-    let mask = key.light_active_mask;
-    if mask == 0 {
-        return true;
-    }
-    let list = resolve_active_lights(s, key);
-    mask == low_bits(list.len)
-}
-
 // The refusals in document 01's order. The mask is looked at whether the lights are dirty or not.
 #[tactic(auto, unfolding(crate::specs::Answer::refresh_answer))]
-pub fn refresh_answer(s: FfState, key: FfVsKey, length: usize) -> Result<(), RefreshError>
-    ensures { result ≡ refresh_answer s key length }
+pub fn refresh_answer(s: &FfState, key: FfVsKey, length: usize) -> Result<(), RefreshError>
+    ensures { result ≡ refresh_answer s.now key length }
 {
     if length != MIRROR_FLOATS {
         return Err(RefreshError::WrongLength);
@@ -70,7 +43,7 @@ pub fn refresh_answer(s: FfState, key: FfVsKey, length: usize) -> Result<(), Ref
     if key.has_rhw {
         return Err(RefreshError::HasRhw);
     }
-    if !mask_accepted(s, key) {
+    if !mask_accepted(Section::Lights, s, key) {
         return Err(RefreshError::WrongMask);
     }
     Ok(())

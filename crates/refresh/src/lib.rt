@@ -6,5 +6,5 @@ mod mirror;
 mod written;
 
 pub use answer::{RefreshError, refresh_answer};
-pub use mirror::refresh;
+pub use mirror::{refresh, refresh_in_place};
 pub use written::has_section;

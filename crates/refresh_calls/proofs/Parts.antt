@@ -1,15 +1,10 @@
--- Sections over a mirror's bytes, one after another: a part that was filled, and all of them.
+-- Sections over a mirror's bytes, one after another.
 -- Assumes nothing.
-use Rattle.std.proofs.Common.{◌≡◌, ◌∙◌, ℕ, ◌+◌, ◌<◌, List, ap, add-one, length, get_or, drop, drop-cons}
+use Rattle.std.proofs.Common.{◌≡◌, ℕ, ◌+◌, ◌<◌, List, ap, add-one, length, get_or, drop, drop-cons}
 use Rattle.sections.specs.declared.sections.Section.{Section}
 use Rattle.ff_state.specs.declared.state.FfState.{FfState}
 use Rattle.sections.specs.declared.key.FfVsKey.{FfVsKey}
-use Rattle.calls.specs.Answer.{Answer, answer, answered}
 use Rattle.refresh_calls.specs.Written.{written_section_bytes, written_bytes}
-
-pub filled : (r number : ℕ) (last new old : List ℕ) → number ≡ 0 → answer r last ≡ answered number new old → last ≡ new
-unfolding answered
-filled r number last new old z e = ap (λ (x : Answer (List ℕ)). x.out) e ∙ rw z
 
 -- the sections, in the table's order
 pub next_written : (σs : List Section) (i : ℕ) (d : Section) (bits : ℕ) (s : FfState) (k : FfVsKey) (m : List ℕ) → i < length σs

@@ -1,28 +1,16 @@
 // The dirty sections of a mirror's bytes.
-ghost use Rattle.std.specs.Prelude.{◌≡◌, ℕ, Err};
+ghost use Rattle.std.specs.Prelude.{◌≡◌, ℕ};
 ghost use Rattle.calls.specs.Answer.{answer};
-ghost use Rattle.calls.specs.Refusal.{refusal_number, code, value_or};
-ghost use Rattle.refresh.specs.Answer.{refresh_number};
+ghost use Rattle.calls.specs.Refusal.{code, value_or};
 ghost use Rattle.refresh_calls.specs.Mirror.{left, ff_refresh};
 
 use crate::written::write_section_bytes;
 use calls::{Refusal, of_length, put_state, read_state};
-use refresh::{RefreshError, refresh_answer};
+use pack_calls::mirror_floats;
+use refresh::refresh_answer;
 use sections::{FfVsKey, MIRROR_FLOATS, SECTIONS};
 
 const MIRROR_BYTES: usize = 4 * MIRROR_FLOATS;
-
-// No `From`: both types are other crates'.
-#[tactic(auto, unfolding(refresh::specs::Answer::refresh_number))]
-fn refusal_of(error: RefreshError) -> Refusal
-    ensures { refusal_number result ≡ refresh_number (Err error) }
-{
-    match error {
-        RefreshError::WrongLength => Refusal::WrongLength,
-        RefreshError::HasRhw => Refusal::HasRhw,
-        RefreshError::WrongMask => Refusal::WrongMask,
-    }
-}
 
 // The bits that were taken. Document 01's order of refusals: 9, 4, 8, 5. Nothing is written before all four are passed.
 pub fn refresh(image: &mut [u8], key: FfVsKey, mirror: &mut [u8]) -> Result<u32, Refusal>
@@ -30,12 +18,11 @@ pub fn refresh(image: &mut [u8], key: FfVsKey, mirror: &mut [u8]) -> Result<u32,
 {
     let s = read_state(image)?;
     of_length(mirror, MIRROR_BYTES)?;
-    if let Err(error) = refresh_answer(s, key, MIRROR_FLOATS) {
-        return Err(refusal_of(error));
-    }
+    refresh_answer(&s, key, MIRROR_FLOATS)?;
     let taken = s.take_ff_vs_dirty();
+    let mut floats = mirror_floats();
     for section in &SECTIONS {
-        write_section_bytes(*section, taken.bits, s, key, mirror);
+        write_section_bytes(*section, taken.bits, &s, key, &mut floats, mirror);
     }
     put_state(image, taken.state);
     Ok(taken.bits)

@@ -2,8 +2,10 @@
 // stdin and stdout beside src/.
 #![tactic(auto)]
 
-use std::io::Result;
+use std::io::{BufReader, BufWriter, Result};
 
 fn main(rt: HostRuntime) -> Result<()> {
-    replay_lines::replay(rt.alloc(), &mut rt.stdin(), &mut rt.stdout())
+    let mut from = BufReader::new(rt.alloc(), rt.stdin())?;
+    let mut to = BufWriter::with_capacity(rt.alloc(), 65_536, rt.stdout())?;
+    replay_lines::replay(&mut from, &mut to)
 }

@@ -2,5 +2,8 @@
 #![tactic(auto)]
 
 mod call;
+mod library;
+mod line;
+mod names;
 
-pub use call::image_call;
+pub use line::image_call;

@@ -1,15 +1,17 @@
 // What a reader gives, a line at a time.
-ghost use Rattle.std.specs.Prelude.{◌≤◌, OnOk, vec_len};
+ghost use Rattle.std.specs.Prelude.{◌≤◌, OnOk};
+ghost use Rattle.arrayvec.specs.ArrayVec.{array_vec_len};
 
+use arrayvec::ArrayVec;
 use std::io::{Read, Result};
 
 // More than the longest line that is a call has.
-const KEPT: usize = 1024;
+pub const KEPT: usize = 1024;
 
 // Puts the next line, without its newline, into `line`, and answers whether it had one. Past KEPT
-// bytes they are dropped, so that no input fills the memory: no line of KEPT is a call.
-pub fn next_line<R: Read>(reader: &mut R, line: &mut Vec<u8>) -> Result<bool>
-    ensures { OnOk result (vec_len line.new ≤ 1024) }
+// bytes they are dropped: no line of KEPT is a call.
+pub fn next_line<R: Read>(reader: &mut R, line: &mut ArrayVec<u8, KEPT>) -> Result<bool>
+    ensures { OnOk result (array_vec_len line.new ≤ 1024) }
 {
     line.clear();
     for b in reader.by_ref().bytes() {
@@ -18,7 +20,7 @@ pub fn next_line<R: Read>(reader: &mut R, line: &mut Vec<u8>) -> Result<bool>
             return Ok(true);
         }
         if line.len() < KEPT {
-            line.push(b)?;
+            line.push(b);
         }
     }
     Ok(false)

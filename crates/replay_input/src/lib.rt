@@ -4,5 +4,5 @@
 mod input;
 mod line;
 
-pub use input::next_line;
+pub use input::{KEPT, next_line};
 pub use line::{Line, read_line};

@@ -7,8 +7,8 @@ use replay_text::{Unanswered, Words};
 pub fn answer(text: &[u8], machine: &mut Machine) -> Result<Words, Unanswered> {
     let line = read_line(text).ok_or(Unanswered::BadLine)?;
     let words = line.words.as_slice();
-    if line.letter < b'a' {
-        return replay_calls::image_call(line.letter, words, machine);
+    if line.letter.is_ascii_lowercase() {
+        return replay_ops::call(line.letter, words);
     }
-    replay_ops::call(line.letter, words)
+    replay_calls::image_call(line.letter, words, machine)
 }

@@ -1,29 +1,25 @@
 // What a reader gives, line by line, to a writer.
 use crate::line::answer;
+use arrayvec::ArrayVec;
 use replay_images::Machine;
-use replay_input::next_line;
-use replay_text::{Unanswered, answer_line};
-use std::alloc::Global;
-use std::io::{BufReader, BufWriter, Read, Result, Write};
+use replay_input::{KEPT, next_line};
+use replay_text::{Unanswered, write_answer};
+use std::io::{Read, Result, Write};
 
 // A loop has to end, and nothing says that the input does: so the turns are counted, up to a number
 // that no run reaches.
-pub fn replay<R: Read, W: Write>(alloc: Global, from: &mut R, to: &mut W) -> Result<()> {
-    let mut from = BufReader::new(alloc, from)?;
-    let mut to = BufWriter::with_capacity(alloc, 65_536, to)?;
+pub fn replay<R: Read, W: Write>(from: &mut R, to: &mut W) -> Result<()> {
     let mut machine = Machine::new();
-    let mut line = Vec::new(alloc);
+    let mut line = ArrayVec::<u8, KEPT>::new();
     for _ in 0..u64::MAX {
-        if !next_line(&mut from, &mut line)? {
+        if !next_line(from, &mut line)? {
             break;
         }
-        let text = answer_line(alloc, answer(line.as_slice(), &mut machine))?;
-        to.write_all(text.as_bytes())?;
+        write_answer(to, answer(line.as_slice(), &mut machine))?;
     }
     // A last line with no newline is no call.
     if !line.is_empty() {
-        let text = answer_line(alloc, Err(Unanswered::BadLine))?;
-        to.write_all(text.as_bytes())?;
+        write_answer(to, Err(Unanswered::BadLine))?;
     }
     to.flush()
 }

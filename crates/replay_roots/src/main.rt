@@ -5,8 +5,10 @@
 #![tactic(auto)]
 
 // The program of `replay` on files of its own, which rt looks for beside src/.
-use std::io::Result;
+use std::io::{BufReader, BufWriter, Result};
 
 fn main(rt: HostRuntime) -> Result<()> {
-    replay_lines::replay(rt.alloc(), &mut rt.stdin(), &mut rt.stdout())
+    let mut from = BufReader::new(rt.alloc(), rt.stdin())?;
+    let mut to = BufWriter::with_capacity(rt.alloc(), 65_536, rt.stdout())?;
+    replay_lines::replay(&mut from, &mut to)
 }

@@ -1,11 +1,13 @@
 // The answer to a line, and its text.
-ghost use Rattle.std.specs.Prelude.{◌≡◌, ◌≤◌, ◌++◌, IfOk, Some, codes, decimal, string_bytes, length};
+ghost use Rattle.std.specs.Prelude.{◌≡◌, ◌≤◌, OnOk, Some, length};
+ghost use Rattle.std.specs.Io.KnownBytes.{Appends};
 ghost use Rattle.replay_text.specs.declared.answer.TheConstants.{LONGEST};
 ghost use Rattle.replay_text.specs.Answer.{Within, slice, words_text, unanswered_text, line_text};
 
 use crate::hex::Word;
-use std::alloc::{AllocError, Global};
+use std::error::Error;
 use std::fmt;
+use std::io::{self, Write};
 
 // The longest line has 16 words, each with a space or the newline after it.
 pub const LONGEST: usize = 144;
@@ -50,11 +52,13 @@ impl fmt::Display for Words {
 // Why a line has no words for an answer.
 #[derive(Clone, Copy, Debug, PartialEq, Eq)]
 pub enum Unanswered {
-    // The number of a refusal of document 01.
+    // The number of a refusal of document 01. No plainer as `calls::Refusal`: the lines, and what is said of the library's calls, are of numbers.
     Refused(u32),
     // No such call.
     BadLine,
 }
+
+impl Error for Unanswered {}
 
 impl fmt::Display for Unanswered {
     ghost output = { λ u. Some (unanswered_text u) };
@@ -67,18 +71,49 @@ impl fmt::Display for Unanswered {
     }
 }
 
-// The answer's line, with its newline.
-pub fn answer_line(alloc: Global, answer: Result<Words, Unanswered>) -> Result<String, AllocError>
-    ensures text { IfOk result (λ line. string_bytes line ≡ line_text answer) }
-    ensures length { IfOk result (λ line. length (string_bytes line) ≤ LONGEST) }
+// Writes the answer's line, with its newline.
+#[tactic(auto, using(crate::proofs::answer::Lengths::length_words, crate::proofs::answer::Lengths::length_unanswered))]
+pub fn write_answer<W: Write>(to: &mut W, answer: Result<Words, Unanswered>) -> io::Result<()>
+    ensures text { OnOk result (Appends (W.contents to.old) (W.contents to.new) (line_text answer)) }
+    ensures length { length (line_text answer) ≤ LONGEST }
 {
     match answer {
         Ok(words) => {
             // Nine bytes for each word: its digits, and a space or the newline.
-            let mut line = String::with_capacity(alloc, 9 * words.as_slice().len())?;
-            writeln!(line, "{words}")?;
-            Ok(line)
+            let bytes = 9 * words.as_slice().len();
+            prove!(bytes <= LONGEST);
+            writeln!(to, "{words}")
         }
-        Err(why) => format!(in alloc; "{why}\n"),
+        Err(why) => writeln!(to, "{why}"),
+    }
+}
+
+#[cfg(test)]
+mod tests {
+    use super::*;
+    use std::test::Fail;
+
+    // Lines 3, 2398, 3204 and 3969 of crates/replay/stdout, which are the Rust's answers.
+    #[test]
+    fn answers_are_written(rt: HostRuntime) -> Result<(), Fail> {
+        let matrix = Words::Matrix([
+            [0x3f80_0000, 0, 1, 0],
+            [0, 0x3f80_0000, 0, 0],
+            [0, 0, 0x3f80_0000, 0x7f00_0000],
+            [0, 0, 1, 0x3f80_0002],
+        ]);
+        let told = Words::Told([0, 0x407c_f300, 0x28f3_ec77, 0x3788_7820]);
+        let mut to = Vec::new(rt.alloc());
+        write_answer(&mut to, Ok(Words::Scalar([0x1a35_04f3])))?;
+        write_answer(&mut to, Ok(matrix))?;
+        write_answer(&mut to, Err(Unanswered::Refused(6)))?;
+        write_answer(&mut to, Ok(told))?;
+        let lines = b"1a3504f3\n\
+            3f800000 00000000 00000001 00000000 00000000 3f800000 00000000 00000000 \
+            00000000 00000000 3f800000 7f000000 00000000 00000000 00000001 3f800002\n\
+            refused 6\n\
+            00000000 407cf300 28f3ec77 37887820\n";
+        assert_eq!(rt; to.as_slice(), lines.as_slice());
+        Ok(())
     }
 }

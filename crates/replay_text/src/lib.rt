@@ -3,6 +3,8 @@
 
 mod answer;
 mod hex;
+mod words;
 
-pub use answer::{LONGEST, Unanswered, Words, answer_line};
+pub use answer::{LONGEST, Unanswered, Words, write_answer};
 pub use hex::word_of;
+pub use words::exactly;

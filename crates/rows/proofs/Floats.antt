@@ -56,16 +56,5 @@ written_from at r rs m = rw (sets_append m at (row_floats r) (floats rs)) (writt
 pub written_whole : (r : Row) (rs : List Row) (m : List Float) → length m ≡ 4 * length (r ∷ rs) → written 0 4 rs (sets m 0 (row_floats r)) ≡ floats (r ∷ rs)
 written_whole r rs m h = written_from 0 r rs m ∙ sets_whole (floats (r ∷ rs)) m (h ∙ sym (length-floats (r ∷ rs)))
 
--- one row, four, and six
 pub one_row : (m : List Float) (r : Row) → length m ≡ 4 → sets m 0 (row_floats r) ≡ floats (r ∷ [])
 one_row m r h = written_whole r [] m h
-
-pub four_rows : (m : List Float) (at : ℕ) (a b c d : Row)
-    → sets (sets (sets (sets m at (row_floats a)) (at + 4) (row_floats b)) (at + 8) (row_floats c)) (at + 12) (row_floats d)
-    ≡ sets m at (floats (a ∷ b ∷ c ∷ d ∷ []))
-four_rows m at a b c d = written_from at a (b ∷ c ∷ d ∷ []) m
-
-pub six_rows : (m : List Float) (at : ℕ) (a b c d e f : Row)
-    → sets (sets (sets (sets (sets (sets m at (row_floats a)) (at + 4) (row_floats b)) (at + 8) (row_floats c)) (at + 12) (row_floats d)) (at + 16) (row_floats e)) (at + 20) (row_floats f)
-    ≡ sets m at (floats (a ∷ b ∷ c ∷ d ∷ e ∷ f ∷ []))
-six_rows m at a b c d e f = written_from at a (b ∷ c ∷ d ∷ e ∷ f ∷ []) m

@@ -8,6 +8,7 @@ use mathlib.Core.List.{List, [], ◌∷◌, ◌++◌}
 use lib.Ieee.{Float}
 use lib.ListN.{length, get_or, take}
 use lib.Seq.{sets, length-sets, length-take-le, take-suc}
+use Rattle.std.proofs.lemmas.List.{take_all}
 use Rattle.d3d9_types.specs.declared.matrix.Row.{Row}
 use Rattle.rows.specs.Rows.{floats, rows_of}
 use Rattle.rows.proofs.Stores.{sets_append, sets_whole}
@@ -56,3 +57,8 @@ module _ {A : Type 0} (f : A → List Row) (w : ℕ) (wide : (x : A) → length 
         let whole : length m ≡ length (floats (rows_of f (take n xs))) =
         s.room ∙ sym (items_length (take n xs) ∙ ap (λ (k : ℕ). 4 * w * k) (length-take-le n xs s.enough)) in
         rw (s.is, e) (sets_whole (floats (rows_of f (take n xs))) m whole)
+
+  -- all of them
+  pub ends_all : (xs : List A) (m : List Float) (i at : ℕ) (dst : List Float) → length xs ≤ i → Standing f w (length xs) xs m dst i at → dst ≡ floats (rows_of f xs)
+  ends_all xs m i at dst h s =
+      ends (length xs) xs m i at dst h s ∙ ap (λ (ys : List A). floats (rows_of f ys)) (take_all (length xs) xs (omega arith))

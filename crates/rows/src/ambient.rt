@@ -10,18 +10,19 @@ use d3d9_types::Row;
 fn over_full(byte: u8) -> f32
     ensures { result ≡ over_full byte }
 {
-    byte as f32 / 255.0
+    f32::from(byte) / 255.0
 }
 
 #[tactic(auto, unfolding(crate::specs::Ambient::rgba_of))]
 pub fn d3dcolor_to_rgba_f32(color: u32) -> Row
     ensures { result ≡ rgba_of color }
 {
+    let [b, g, r, a] = color.to_le_bytes();
     Row {
-        x: over_full((color / 65536 % 256) as u8),
-        y: over_full((color / 256 % 256) as u8),
-        z: over_full((color % 256) as u8),
-        w: over_full((color / 16777216 % 256) as u8),
+        x: over_full(r),
+        y: over_full(g),
+        z: over_full(b),
+        w: over_full(a),
     }
 }
 

@@ -14,4 +14,4 @@ pub use fog::write_fog;
 pub use material::write_material;
 pub use palette::write_palette;
 pub use textures::write_textures;
-pub use write::{write_matrix, write_row};
+pub use write::{write_matrix, write_row, write_rows};

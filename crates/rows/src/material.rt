@@ -4,19 +4,22 @@ ghost use Rattle.std.proofs.lemmas.List.Edits.{sets};
 ghost use Rattle.rows.specs.Rows.{floats};
 ghost use Rattle.rows.specs.Material.{material_rows};
 
-use crate::write::write_row;
+use crate::write::{write_row, write_rows};
 use d3d9_types::{D3DMATERIAL9, Row};
 
 // The four colours.
-#[tactic(auto, using(crate::proofs::Floats::four_rows), unfolding(crate::specs::Material::material_rows))]
+#[tactic(auto, unfolding(crate::specs::Material::material_rows))]
 fn write_colors(dst: &mut [f32], m: D3DMATERIAL9)
     requires { 16 ≤ length dst.old }
     ensures { dst.new ≡ sets dst.old 0 (floats (material_rows true false m)) }
 {
-    write_row(dst, 0, Row::from(m.diffuse));
-    write_row(dst, 4, Row::from(m.ambient));
-    write_row(dst, 8, Row::from(m.specular));
-    write_row(dst, 12, Row::from(m.emissive));
+    let colors = [
+        Row::from(m.diffuse),
+        Row::from(m.ambient),
+        Row::from(m.specular),
+        Row::from(m.emissive),
+    ];
+    write_rows(dst, 0, &colors);
 }
 
 pub fn write_material(dst: &mut [f32], lit: bool, specular: bool, m: D3DMATERIAL9)

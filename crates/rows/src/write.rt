@@ -1,5 +1,5 @@
-// A row, and the four rows of a matrix, written from a place on.
-ghost use Rattle.std.specs.Prelude.{◌≡◌, ◌+◌, ◌≤◌, length};
+// A row, rows one behind the other, and the four rows of a matrix, written from a place on.
+ghost use Rattle.std.specs.Prelude.{◌≡◌, ◌+◌, ◌*◌, ◌≤◌, length};
 ghost use Rattle.std.proofs.lemmas.List.Edits.{sets};
 ghost use Rattle.rows.specs.Rows.{row_floats, floats};
 ghost use Rattle.rows.specs.Matrices.{matrix_rows};
@@ -17,13 +17,20 @@ pub fn write_row(dst: &mut [f32], at: usize, r: Row)
     dst[at + 3] = r.w;
 }
 
-#[tactic(auto, using(crate::proofs::Floats::four_rows))]
+// The matrices of the palette, those of the texture stages, and the lights are each written by a loop of their own: one function over a closure
+// would promise no equation, but one for each function that the closure may compute.
+pub fn write_rows(dst: &mut [f32], at: usize, rows: &[Row])
+    requires { at + 4 * length rows.now ≤ length dst.old }
+    ensures { dst.new ≡ sets dst.old at (floats rows.now) }
+{
+    for (i, row) in rows.iter().enumerate() {
+        write_row(dst, at + 4 * i, *row);
+    }
+}
+
 pub fn write_matrix(dst: &mut [f32], at: usize, m: D3DMATRIX)
     requires { at + 16 ≤ length dst.old }
     ensures { dst.new ≡ sets dst.old at (floats (matrix_rows m)) }
 {
-    write_row(dst, at, m.r0);
-    write_row(dst, at + 4, m.r1);
-    write_row(dst, at + 8, m.r2);
-    write_row(dst, at + 12, m.r3);
+    write_rows(dst, at, &[m.r0, m.r1, m.r2, m.r3]);
 }

@@ -10,17 +10,7 @@ use Rattle.sections.specs.Key.{SameShape, limit_of, light_limit}
 use Rattle.sections.specs.declared.key.FfVsKey.{FfVsKey}
 
 -- "Shape fields: all except HAS_RHW and `fog_mode`"; "`fog_mode` becomes a shape field": HAS_RHW alone is free
-pub free_field : (k : FfVsKey) (rhw : Bool)
-    → SameShape k (record {
-      has_rhw = rhw;
-      lighting_enabled = k.lighting_enabled;
-      specular_enable = k.specular_enable;
-      vertex_blend_indexed = k.vertex_blend_indexed;
-      preview = k.preview;
-      light_active_mask = k.light_active_mask;
-      fog_mode = k.fog_mode;
-      vertex_blend_count = k.vertex_blend_count;
-    })
+pub free_field : (k : FfVsKey) (rhw : Bool) → SameShape k (record k { has_rhw = rhw })
 free_field k rhw =
     record { lighting_enabled = refl; specular_enable = refl; vertex_blend_indexed = refl; preview = refl; light-active-mask = refl; fog_mode = refl; vertex_blend_count = refl }
 

@@ -1,7 +1,10 @@
 -- The table of sections: bit and first row. Document 01, 'A refresh, from the top'; document 02, T-05.
-use Rattle.std.specs.Prelude.{ℕ, ◌+◌, Bool, List, [], ◌∷◌}
+use Rattle.std.specs.Prelude.{ℕ, ◌+◌, Bool, List, [], ◌∷◌, Result, eqb, codes}
+use Rattle.std.specs.List.{find}
+use Rattle.std.specs.Option.{ok_or}
 use Rattle.words.specs.Bits.{has_bit}
 use Rattle.sections.specs.declared.sections.Section.{Section}
+use Rattle.sections.specs.declared.sections.UnknownSection.{UnknownSection}
 use Rattle.sections.specs.declared.sections.Section.TheVariants.{Wv, Proj, Material, Lights, Palette, Tt, Fog, Ambient}
 
 -- "WV 1, PROJ 2, MATERIAL 4, LIGHTS 8, PALETTE 16, TT 32"; "Bits FOG 64 and AMBIENT 128 join"
@@ -17,6 +20,10 @@ bit_of Ambient = 128
 
 abbrev pub sections : List Section
 sections = Wv ∷ Proj ∷ Material ∷ Lights ∷ Palette ∷ Tt ∷ Fog ∷ Ambient ∷ []
+
+-- the section with this bit, if one has it
+abbrev pub section_of : ℕ → Result Section UnknownSection
+section_of bit = ok_or (find (λ σ. eqb (bit_of σ) bit) sections) (record {})
 
 -- a word of the bits of some sections
 abbrev pub bits_of : List Section → ℕ
@@ -50,3 +57,7 @@ first_row Palette = 95
 first_row Tt = 63
 first_row Fog = 8
 first_row Ambient = 9
+
+-- what is written of the error
+abbrev pub unknown_section_text : List ℕ
+unknown_section_text = codes "a number that is no section's bit"

@@ -10,6 +10,6 @@ pub use counts::{material_section_rows, palette_matrices, places, section_rows};
 pub use key::{FfVsKey, light_limit};
 pub use row_count::ff_vs_row_count;
 pub use sections::{
-    ALL, AMBIENT, FOG, LIGHTS, MATERIAL, MIRROR_FLOATS, PALETTE, PROJ, SECTIONS, Section, TT, WV,
-    first_row, section_bit,
+    ALL, AMBIENT, FOG, LIGHTS, MATERIAL, MIRROR_FLOATS, PALETTE, PROJ, SECTIONS, Section, TT,
+    UnknownSection, WV, first_row,
 };

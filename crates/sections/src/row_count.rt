@@ -4,6 +4,7 @@ ghost use Rattle.sections.specs.RowCount.{lighting_reach, texture_reach, palette
 
 use crate::counts::{lights_section_rows, palette_section_rows, tt_section_rows};
 use crate::key::FfVsKey;
+use crate::sections::{Section, first_row};
 
 // Past the material and, when lit, the lights.
 #[tactic(auto, using(crate::proofs::Bounds::lights_most), unfolding(crate::specs::RowCount::lighting_reach))]
@@ -14,7 +15,7 @@ fn lighting_reach(key: FfVsKey) -> u16
         return 11;
     }
     if key.light_active_mask != 0 {
-        return 15 + lights_section_rows(key);
+        return first_row(Section::Lights) + lights_section_rows(key);
     }
     if key.specular_enable {
         return 15;
@@ -29,7 +30,7 @@ fn texture_reach(texture_mask: u8) -> u16
     if texture_mask == 0 {
         0
     } else {
-        63 + tt_section_rows(texture_mask)
+        first_row(Section::Tt) + tt_section_rows(texture_mask)
     }
 }
 
@@ -40,7 +41,7 @@ fn palette_reach(key: FfVsKey) -> u16
     if key.vertex_blend_count == 0 {
         0
     } else {
-        95 + palette_section_rows(key)
+        first_row(Section::Palette) + palette_section_rows(key)
     }
 }
 

@@ -1,5 +1,5 @@
 -- What a host learns from the contracts of the calls over an image, and of those of `host`, which the C names call under the same clauses: the number and the image are those that a step uses; and none asks anything.
--- Assumes nothing.
+-- Of each call two modules are brought in, its parameters and what its contract says of them: the theorems' statements name both. Assumes nothing.
 use Prim.Native.Nat.{ℕ}
 use mathlib.Core.Path.{◌≡◌}
 use borrow.Fn.Kinds.{Dens, ended_of}

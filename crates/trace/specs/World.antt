@@ -52,43 +52,24 @@ fresh_track m =
 
 -- the mirror as a refresh left it
 unfoldable pub with_mirror : List Float → Track → Track
-with_mirror m t =
-    record {
-      mirror = m;
-      last_key = t.last_key;
-      rows_at_last_refresh = t.rows_at_last_refresh;
-      exempt = t.exempt;
-      marked = t.marked;
-      needs_marking = t.needs_marking;
-    }
+with_mirror m t = record t { mirror = m }
 
 -- these sections were marked
 unfoldable pub track_marked : (Section → Bool) → Track → Track
 track_marked now t =
-    record {
-      mirror = t.mirror;
-      last_key = t.last_key;
-      rows_at_last_refresh = t.rows_at_last_refresh;
+    record t {
       exempt = λ σ. t.exempt σ && not (now σ);
       marked = λ σ. t.marked σ || now σ;
       needs_marking = λ σ. t.needs_marking σ && not (now σ);
     }
 
 unfoldable pub track_read_in : Track → Track
-track_read_in t =
-    record {
-      mirror = t.mirror;
-      last_key = t.last_key;
-      rows_at_last_refresh = t.rows_at_last_refresh;
-      exempt = t.exempt;
-      marked = t.marked;
-      needs_marking = λ σ. true;
-    }
+track_read_in t = record t { needs_marking = λ σ. true }
 
 -- a refresh under the key was accepted, in which each section has so many rows
 unfoldable pub track_refreshed : FfVsKey → (Section → ℕ) → Track → Track
 track_refreshed k rows t =
-    record { mirror = t.mirror; last_key = some k; rows_at_last_refresh = rows; exempt = t.exempt; marked = λ σ. false; needs_marking = λ σ. false }
+    record t { last_key = some k; rows_at_last_refresh = rows; marked = λ σ. false; needs_marking = λ σ. false }
 
 -- row r is one of the n rows of a section
 unfoldable pub is_row : ℕ → Section → ℕ → Bool
@@ -107,14 +88,7 @@ row_set r x y z t m = set (set (set (set m (4 * r) x) (4 * r + 1) y) (4 * r + 2)
 
 unfoldable pub track_overwritten : ℕ → Float → Float → Float → Float → Track → Track
 track_overwritten r x y z u t =
-    record {
-      mirror = row_set r x y z u t.mirror;
-      last_key = t.last_key;
-      rows_at_last_refresh = t.rows_at_last_refresh;
-      exempt = λ σ. t.exempt σ || hits r t σ;
-      marked = t.marked;
-      needs_marking = t.needs_marking;
-    }
+    record t { mirror = row_set r x y z u t.mirror; exempt = λ σ. t.exempt σ || hits r t σ }
 
 -- ---- the world
 
@@ -130,17 +104,17 @@ start m = record { stored = value fresh_state; abstract = fresh_abstract; track 
 
 -- the state stored so
 unfoldable pub standing : Stored → World → World
-standing h w = record { stored = h; abstract = w.abstract; track = w.track }
+standing h w = record w { stored = h }
 
 unfoldable pub tracking : Track → World → World
-tracking t w = record { stored = w.stored; abstract = w.abstract; track = t }
+tracking t w = record w { track = t }
 
 -- whether an operation marks a section: an accepted one, by the rule of the abstract state
 unfoldable pub marks : AbstractState → Operation → Section → Bool
 marks a op σ = eqb (abstract_refusal a op) 0 && marks_section op σ
 
 unfoldable pub operated : Operation → World → World
-operated op w = record { stored = w.stored; abstract = abstract_step w.abstract op; track = track_marked (marks w.abstract op) w.track }
+operated op w = record w { abstract = abstract_step w.abstract op; track = track_marked (marks w.abstract op) w.track }
 
 unfoldable pub operated_if : Option Operation → World → World
 operated_if none w = w

@@ -6,6 +6,7 @@ use mathlib.Core.Path.{◌≡◌, refl, ap, ◌∙◌}
 use mathlib.Core.List.{List, [], ◌∷◌}
 use lib.ListN.{length, get_or, take, drop}
 use lib.Seq.{get_or-drop, drop-append-add, drop-cons, take_at}
+use Rattle.std.specs.Int.{w16, w32, to_le_bytes}
 use Rattle.codec.specs.Little.{little_bytes, little_number, number_at, Bytes}
 use Rattle.codec.proofs.Inside.{Skips, Starts}
 pub use Rattle.codec.specs.Sizes.{length-little_bytes}
@@ -27,13 +28,7 @@ little_bytes-little_number (b ∷ bs) h =
     let high : (b + 256 * little_number bs) / 256 ≡ little_number bs = omega arith in
     rw (low, high, little_bytes-little_number bs (λ (i : ℕ). h (suc i)))
 
--- one, two and four bytes, written out
-pub number_of_one : (t : List ℕ) → length t ≡ 1 → get_or t 0 0 ≡ little_number t
-unfolding little_number
-number_of_one [] h = absurd (omega arith)
-number_of_one (a ∷ []) h = omega arith
-number_of_one (a ∷ b ∷ t) h = absurd (omega arith)
-
+-- one, two and four bytes, written out, as std's `from_le_bytes` sums them
 pub number_at_one : (s : List ℕ) (at : ℕ) → at < length s → get_or s at 0 ≡ number_at 1 s at
 unfolding little_number
 number_at_one s at h = rw (drop-cons s at 0) (omega arith)
@@ -53,6 +48,18 @@ number_of_four (a ∷ b ∷ []) h = absurd (omega arith)
 number_of_four (a ∷ b ∷ c ∷ []) h = absurd (omega arith)
 number_of_four (a ∷ b ∷ c ∷ d ∷ []) h = omega arith
 number_of_four (a ∷ b ∷ c ∷ d ∷ e ∷ t) h = absurd (omega arith)
+
+-- the same bytes as std's `to_le_bytes` gives
+pub bytes_of_two : (n : ℕ) → to_le_bytes w16 n ≡ little_bytes 2 n
+unfolding little_bytes
+bytes_of_two n = refl
+
+pub bytes_of_four : (n : ℕ) → to_le_bytes w32 n ≡ little_bytes 4 n
+unfolding little_bytes
+bytes_of_four n =
+    let third : n / 0x1_0000 % 256 ≡ n / 256 / 256 % 256 = omega arith in
+    let fourth : n / 0x100_0000 % 256 ≡ n / 256 / 256 / 256 % 256 = omega arith in
+    rw (third, fourth)
 
 pub number_at_skips : (k : ℕ) → Skips (number_at k)
 number_at_skips k p q n = rw drop-append-add

@@ -1,7 +1,7 @@
 -- The whole-number root: `floor_root n` is the one r with r * r ≤ n < (r + 1) * (r + 1), and `nearest_root n` is r or r + 1 by which side of r + 1/2 the root lies.
 -- Assumes nothing.
 use Prim.Native.Nat.{ℕ, zero, suc, ◌+◌, ◌-◌, ◌*◌, ◌^◌, ◌≤◌, ◌<◌, zero-le}
-use native.Mathlib.Nat.{le_of_lt, le_antisymm, lt_of_le_of_lt, le_of_suc-le-suc, lt_of_not-le, not-le_of_lt, mul-le-mul, mul-add, add-mul, mul_comm, mul_assoc, mul_left_comm, mul-suc, suc-mul, add_assoc, add_comm, add_left_comm, two-pow-succ}
+use native.Mathlib.Nat.{le_antisymm, lt_of_le_of_lt, le_of_suc-le-suc, lt_of_not-le, not-le_of_lt, mul-le-mul, mul-add, add-mul, mul_comm, mul_assoc, mul_left_comm, mul-suc, suc-mul, add_assoc, add_comm, add_left_comm, two-pow-succ}
 use native.Mathlib.Omega.{arith}
 use native.Mathlib.Numerals.{add-one}
 use mathlib.Core.Path.{◌≡◌, refl, sym, ap, subst, ◌∙◌}
@@ -63,9 +63,15 @@ nearest_near n h =
     (λ (e : leb (n - r * r) r ≡ true). inl (i.0, rw odd_square (omega (arith, leb-true (n - r * r) r e, i.0))))
     (λ (e : leb (n - r * r) r ≡ false). inr (r, refl, i.1, rw odd_square (omega (arith, leb-false (n - r * r) r e, i.0))))
 
--- the square of a number of at most 24 digits, and of the next one, fits 64 bits
-pub square_fits : (r : ℕ) → r < 2 ^ 24 → Fits w64 (r * r)
-square_fits r h = record { fits = lt_of_le_of_lt (mul-le-mul (le_of_lt h) (le_of_lt h)) (lit< tt) }
+-- the square of a number of at most 32 digits fits 64 bits
+pub square_fits : (r : ℕ) → r < 2 ^ 32 → Fits w64 (r * r)
+square_fits r h =
+    let most : r ≤ 2 ^ 32 - 1 = omega arith in
+    record { fits = lt_of_le_of_lt (mul-le-mul most most) (lit< tt) }
+
+-- a remainder of at most 2 * r: n is below the next square
+pub below_next : (n r : ℕ) → r * r ≤ n → n - r * r ≤ 2 * r → n < suc r * suc r
+below_next n r lo h = rw next_square (omega (arith, lo))
 
 -- the nearest root of a number of 47 or 48 digits has 24, or is 2 ^ 24
 near_bounds : (n q : ℕ) → 2 ^ 46 ≤ n → n < 2 ^ 48 → Near n q → (2 ^ 23 ≤ q) × (q ≤ 2 ^ 24)

@@ -6,9 +6,9 @@ use Rattle.float32.proofs.remainder.moved_up.Goals as goal
 twice : (n r : ℕ) → r ≡ n % 0xC9_0FDB → 2 * r % 0xC9_0FDB ≡ n * 2 % 0xC9_0FDB
 twice n r h = omega arith
 
-pub loop-i-preserved : goal.loop-i-preserved
-loop-i-preserved c =
-    let i = c.loop-i.i in
+pub loop-preserved : goal.loop-preserved
+loop-preserved c =
+    let i = c.loop.counter in
     let s = c.args.significand in
-    twice (s * 2 ^ i) c.loop-i.r c.loop-i.invariant
+    twice (s * 2 ^ i) c.loop.r c.loop.invariant
     ∙ ap (λ (x : ℕ). x % 0xC9_0FDB) (mul_assoc s (2 ^ i) 2 ∙ ap (λ (x : ℕ). s * x) (sym (pow-suc 2 i) ∙ ap (λ (j : ℕ). 2 ^ j) (sym (add-one i))))

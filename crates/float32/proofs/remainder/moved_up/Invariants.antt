@@ -2,5 +2,5 @@
 use Rattle.std.proofs.Common.{◌≡◌, ◌*◌, ◌%◌, ◌^◌}
 use Rattle.float32.proofs.remainder.moved_up.Given as goal
 
-abbrev pub invariant-loop-i : goal.invariant-loop-i
-invariant-loop-i l = l.r ≡ l.significand * 2 ^ l.i % 0xC9_0FDB
+abbrev pub invariant-loop : goal.invariant-loop
+invariant-loop l = l.r ≡ l.significand * 2 ^ l.counter % 0xC9_0FDB

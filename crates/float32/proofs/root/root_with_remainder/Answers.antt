@@ -41,12 +41,12 @@ small : (c : After-floor_root-root) → (c.with_even_exponent-n.result < 2 ^ 48)
 small c h = subst (λ (r : ℕ). r < 2 ^ 24) (sym c.floor_root-root.ensures) (floor_small c.with_even_exponent-n.result h)
 
 pub floor_root-root-requires : goal.floor_root-root-requires
-floor_root-root-requires c = ((sized (goal.at.floor_root-root-requires c).After-with_even_exponent-n).1, c.guess.ensures.0, c.guess.ensures.1)
+floor_root-root-requires c = (sized (goal.at.floor_root-root-requires c).After-with_even_exponent-n).1
 
 pub overflow_mul-result : goal.overflow_mul-result
 overflow_mul-result c =
     let at = goal.at.overflow_mul-result c in
-    square_fits c.floor_root-root.result (small at.After-floor_root-root (sized at.After-with_even_exponent-n).1)
+    square_fits c.floor_root-root.result (omega (arith, small at.After-floor_root-root (sized at.After-with_even_exponent-n).1))
 
 pub overflow_sub-result : goal.overflow_sub-result
 overflow_sub-result c =

@@ -8,6 +8,6 @@ pub returns : goal.returns
 returns c =
     let s = c.args.f.exponent in
     ⊎_elim
-    (λ (e : s % 2 ≡ 0). rw e (omega arith))
-    (λ (p : 0 < s % 2). let e : s % 2 ≡ 1 = omega arith in rw e (omega arith))
+    (λ (e : s % 2 ≡ 0). rw (c.from.ensures, c.from-2.ensures, e) (omega arith))
+    (λ (p : 0 < s % 2). let e : s % 2 ≡ 1 = omega arith in rw (c.from.ensures, c.from-2.ensures, e) (omega arith))
     (eq-zero-or-pos (s % 2))

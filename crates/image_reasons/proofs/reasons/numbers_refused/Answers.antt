@@ -1,16 +1,10 @@
 -- The numbers are those that stand in the image; `|` is `||` of tests that were made.
 use Rattle.std.proofs.Common.{◌≡◌, ℕ, List, not, ◌||◌}
-use mathlib.Core.Bool.{Bool, true, false}
-use mathlib.Core.Path.{refl}
 use lib.Dec.{ltb, eqb}
 use Rattle.codec.specs.Little.{number_at}
 use Rattle.image_reasons.specs.Reasons.{numbers_refused}
+use Rattle.image_reasons.proofs.Numbers.{or_assoc4}
 use Rattle.image_reasons.proofs.reasons.numbers_refused.Goals as goal
-
-or_assoc4 : (a b c d : Bool) → (((a || b) || c) || d) ≡ (a || (b || (c || d)))
-or_assoc4 true b c d = refl
-or_assoc4 false true c d = refl
-or_assoc4 false false c d = refl
 
 of_numbers : (bytes : List ℕ) (m z i n : ℕ) → m ≡ number_at 4 bytes 24_220 → z ≡ number_at 1 bytes 17_927 → i ≡ number_at 2 bytes 17_928 → n ≡ number_at 2 bytes 17_930
     → (((ltb 255 m || not (eqb z 0)) || ltb 255 i) || ltb 56 n) ≡ numbers_refused bytes

@@ -7,7 +7,7 @@ use Rattle.light_table.proofs.active.kind_mask.Goals as goal
 room : (c : goal.In-Some) → c.loop-light.mask < 128
 room c =
     let i = c.loop-light.invariant in
-    kind_room _ _ _ _ _ i.0 i.1.0 i.1.1 c.requires _ _ c.in-Some.ensures.steps
+    kind_room _ _ _ _ i.0 i.1.0 i.1.1 c.requires _ _ c.in-Some.ensures.steps
 
 pub loop-light-init : goal.loop-light-init
 unfolding kind_mask
@@ -17,14 +17,14 @@ pub overflow_mul-mask : goal.overflow_mul-mask
 overflow_mul-mask c = omega (arith, room c)
 
 pub overflow_add-mask : goal.overflow_add-mask
-overflow_add-mask c = turn_fits _ _ (room c)
+overflow_add-mask c = rw c.from.ensures (turn_fits _ _ (room c.before))
 
 pub loop-light-preserved : goal.loop-light-preserved
 loop-light-preserved c =
     let i = c.loop-light.invariant in
-    (c.in-Some.light.now ∷ i.0, kind_turn _ _ _ _ _ i.0 i.1.0 i.1.1 _ _ c.in-Some.ensures.steps)
+    (c.in-Some.light.now ∷ i.0, rw c.from.ensures (kind_turn _ _ _ _ i.0 i.1.0 i.1.1 _ _ c.in-Some.ensures.steps))
 
 pub returns : goal.returns
 returns c =
     let i = c.loop-light.invariant in
-    kind_done _ _ _ _ _ i.0 i.1.0 i.1.1 c.in-None.ensures.steps.0
+    kind_done _ _ _ _ i.0 i.1.0 i.1.1 c.in-None.ensures.steps.0

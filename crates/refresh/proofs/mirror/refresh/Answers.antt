@@ -1,44 +1,24 @@
--- A refused refresh returns before anything is written; an accepted one writes the sections in the table's order.
-use Rattle.std.proofs.Common.{◌≡◌, ◌∙◌, ℕ, ◌+◌, ◌<◌, List, Float, Ok, sym, ap, subst, arith, add-one, length, get_or, drop, drop-cons}
-use mathlib.Core.Path.{ap₂}
-use Rattle.ff_state.specs.declared.dirty.Taken.{Taken}
+-- Beside a refusal the state that was lent is as it was.
+use Rattle.std.proofs.Common.{◌≡◌, ◌∙◌, List, Float, Result, Ok, Err, sym, ap, length}
+use Rattle.std.proofs.lemmas.Result.{err_from_is_err_and}
 use Rattle.ff_state.specs.declared.state.FfState.{FfState}
-use Rattle.sections.specs.Sections.{sections}
 use Rattle.sections.specs.declared.key.FfVsKey.{FfVsKey}
-use Rattle.sections.specs.declared.sections.Section.{Section}
 use Rattle.refresh.specs.Answer.{refresh_answer}
-use Rattle.refresh.specs.Mirror.{refreshed, acceptance, refresh_by, refresh_mirror}
-use Rattle.refresh.specs.Written.{written_section, written}
-use Rattle.refresh.proofs.Answers.{accepted_fits}
+use Rattle.refresh.specs.Mirror.{RefreshOutcome, refreshed, refusal, refresh_by, refresh_mirror}
+use Rattle.refresh.specs.declared.answer.RefreshError.{RefreshError}
 use Rattle.refresh.proofs.mirror.refresh.Goals as goal
 
-next : (σs : List Section) (i : ℕ) (d : Section) (bits : ℕ) (s : FfState) (k : FfVsKey) (m : List Float) → i < length σs
-    → written (drop i σs) bits s k m ≡ written (drop (i + 1) σs) bits s k (written_section (get_or σs i d) bits s k m)
-unfolding written
-next σs i d bits s k m h = rw add-one (ap (λ (τs : List Section). written τs bits s k m) (drop-cons σs i d h))
+module _ (s t : FfState) (k : FfVsKey) (m n : List Float) (e : RefreshError) where
+  same_by : (a : Result Unit RefreshError) → refreshed (refusal (Err e) t) n ≡ refresh_by a s k m → refreshed (refusal (Err e) s) n ≡ refresh_by a s k m
+  unfolding refresh_by
+  same_by (Ok u) q = let p = ap (λ (o : RefreshOutcome). o.result.answer) q in cc
+  same_by (Err x) q = ap (λ (z : FfState). refreshed (refusal (Err e) z) n) (sym (ap (λ (o : RefreshOutcome). o.result.state) q)) ∙ q
 
-pub write_section-requires : goal.write_section-requires
-write_section-requires c =
-    let f = accepted_fits c.args.s c.args.key (length c.args.mirror.now) (sym c.refresh_answer.ensures ∙ c.in_ok-refresh_answer.was) in
-    (c.loop-section.auto.mirror ∙ f.long, f.mask)
+  same : refreshed (refusal (Err e) t) n ≡ refresh_mirror s k m → refreshed (refusal (Err e) s) n ≡ refresh_mirror s k m
+  unfolding refresh_mirror
+  same = same_by (refresh_answer s k (length m))
 
-pub loop-section-preserved : goal.loop-section-preserved
-loop-section-preserved c =
-    let a = c.args in
-    let bits = c.take_ff_vs_dirty-taken.result.bits in
-    let i = c.loop-section.section-index in
-    ap (written (drop (i + 1) sections) bits a.s a.key) c.write_section.ensures
-    ∙ sym (next sections i _ bits a.s a.key c.loop-section.mirror c.loop-section-test.true)
-    ∙ c.loop-section.invariant
-
-pub returns : goal.returns
-unfolding refresh_mirror refresh_by written
-returns c =
-    let a = c.args in
-    let taken = c.take_ff_vs_dirty-taken in
-    let answer : refresh_answer a.s a.key (length a.mirror.now) ≡ Ok tt = sym c.refresh_answer.ensures ∙ c.in_ok-refresh_answer.was in
-    let end : c.loop-section.section-index ≡ 8 = omega arith in
-    let all : c.loop-section.mirror ≡ written sections taken.result.bits a.s a.key a.mirror.now =
-    subst (λ (n : ℕ). written (drop n sections) taken.result.bits a.s a.key c.loop-section.mirror ≡ written sections taken.result.bits a.s a.key a.mirror.now) end c.loop-section.invariant in
-    rw answer
-    (ap₂ (λ (t : Taken) (x : List Float). refreshed (acceptance t) x) taken.ensures (all ∙ ap (λ (t : Taken). written sections t.bits a.s a.key a.mirror.now) taken.ensures))
+pub returns-in_err-bits : goal.returns-in_err-bits
+returns-in_err-bits c =
+    let p = err_from_is_err_and c.from_residual.result c.from_residual.ensures.1 in
+    rw (p.1, p.2) (same c.args.s _ c.args.key c.args.mirror.now _ _ c.in_err-bits.ensures)

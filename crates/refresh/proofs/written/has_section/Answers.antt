@@ -6,4 +6,4 @@ use Rattle.refresh.proofs.written.has_section.Goals as goal
 
 pub returns : goal.returns
 unfolding has_bit
-returns c = ap (λ (n : ℕ). eqb (c.args.bits / n % 2) 1) (c.section_bit-bit.ensures ∙ bit-place c.args.section)
+returns c = ap (λ (n : ℕ). eqb (c.args.bits / n % 2) 1) (c.from-bit.ensures ∙ c.from.ensures ∙ bit-place c.args.section)

@@ -1,5 +1,5 @@
 -- 9, 4, 8 and 5 in their order, and past them the sections written one after another, the image of the emptied state and the bits.
-use Rattle.std.proofs.Common.{◌≡◌, ◌∙◌, ℕ, ◌+◌, List, sym, ap, subst, arith, drop}
+use Rattle.std.proofs.Common.{◌≡◌, ◌∙◌, ℕ, ◌+◌, List, Result, Ok, Err, refl, sym, ap, subst, arith, drop}
 use Rattle.std.proofs.lemmas.Result.{err_from_is_err_and}
 use mathlib.Core.Path.{ap₂}
 use Rattle.ff_state.specs.Dirty.{take_ff_vs_dirty}
@@ -33,17 +33,18 @@ returns-in_err-of_length c out =
     let p = err_from_is_err_and c.from_residual-in_err-of_length.result c.from_residual-in_err-of_length.ensures.1 in
     rw (p.1, p.2, wrong.0) (refresh_four a.image.now a.key a.mirror.now out (state_is _ _ c.in_ok-s.ensures).0 wrong.1)
 
-pub returns-in-Err : goal.returns-in-Err
-returns-in-Err c out =
+pub returns-in_err-refresh_answer : goal.returns-in_err-refresh_answer
+returns-in_err-refresh_answer c out =
     let a = c.args in
     let read = state_is _ _ c.in_ok-s.ensures in
-    rw c.refusal_of.ensures
-    (refresh_error a.image.now a.key a.mirror.now out read.0 (long_taken _ _ _ c.in_ok-of_length.ensures) c.in-Err.error
-    (sym (c.refresh_answer.ensures ∙ ap (λ (s : FfState). refresh_answer s a.key 4460) read.1) ∙ c.in-Err.is))
+    let p = err_from_is_err_and c.from_residual-in_err-refresh_answer.result c.from_residual-in_err-refresh_answer.ensures.1 in
+    rw (p.1, p.2)
+    (refresh_error a.image.now a.key a.mirror.now out read.0 (long_taken _ _ _ c.in_ok-of_length.ensures) c.in_err-refresh_answer.field-0.0
+    (sym (c.in_err-refresh_answer.ensures ∙ ap (λ (s : FfState). refresh_answer s a.key 4460) read.1)))
 
 pub write_section_bytes-requires : goal.write_section_bytes-requires
 write_section_bytes-requires c =
-    (c.loop-section.auto.mirror ∙ long_taken _ _ _ c.in_ok-of_length.ensures, (accepted_fits _ _ _ (sym c.refresh_answer.ensures ∙ c.in_default.is)).mask)
+    (c.loop-section.auto.mirror ∙ long_taken _ _ _ c.in_ok-of_length.ensures, (accepted_fits _ _ _ (sym c.in_ok-refresh_answer.ensures)).mask)
 
 pub loop-section-preserved : goal.loop-section-preserved
 loop-section-preserved c =
@@ -71,7 +72,7 @@ returns c out =
     let all : c.loop-section.mirror ≡ written_bytes sections t.bits s a.key a.mirror.now =
     subst (λ (n : ℕ). written_bytes (drop n sections) t.bits s a.key c.loop-section.mirror ≡ written_bytes sections t.bits s a.key a.mirror.now) end c.loop-section.invariant in
     refresh_done _ _ _ out read.0 (long_taken _ _ _ c.in_ok-of_length.ensures)
-    (ap refresh_number (sym (c.refresh_answer.ensures ∙ ap (λ (x : FfState). refresh_answer x a.key 4460) is) ∙ c.in_default.is))
+    (ap refresh_number (sym (c.in_ok-refresh_answer.ensures ∙ ap (λ (x : FfState). refresh_answer x a.key 4460) is)))
     _
     (ap₂ (λ (i m : List ℕ). left i m t.bits) c.put_state.ensures all
     ∙ ap (λ (r : Taken). left (image_bytes r.state) (written_bytes sections r.bits s a.key a.mirror.now) r.bits) taken
