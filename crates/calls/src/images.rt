@@ -8,13 +8,17 @@ ghost use Rattle.calls.specs.Refusal.{code};
 
 use crate::refusal::Refusal;
 use ff_state::FfState;
-use image::{read_image, write_image};
+use image::{state_of, write_image};
+use image_reasons::image_refused;
 
-// The state that an image holds: what each call over one begins with.
+// The state that an image holds: what each call over one begins with. Not by `read_image`, whose answer would be copied into this one: a call took some 3 µs more.
 pub fn read_state(image: &[u8]) -> Result<FfState, Refusal>
     ensures { result ≡ read_state image.now }
 {
-    Ok(read_image(image)?)
+    if image_refused(image) {
+        return Err(Refusal::NotAnImage);
+    }
+    Ok(state_of(image))
 }
 
 // The state over an image that was read. Only crates of this repository call it, after `read_state`: the image's length was tested there, and
@@ -32,9 +36,12 @@ pub fn image_fresh(image: &mut [u8]) -> Result<(), Refusal>
     Ok(write_image(FfState::new(), image)?)
 }
 
+// The tests alone: with the state read too it took 12.7 µs in place of 1.5.
 pub fn image_check(image: &[u8]) -> Result<(), Refusal>
     ensures { code result ≡ ff_image_check image.now }
 {
-    read_state(image)?;
+    if image_refused(image) {
+        return Err(Refusal::NotAnImage);
+    }
     Ok(())
 }
