@@ -2,12 +2,12 @@
 use crate::access::{floats_of, matrix_of};
 use d3d9_types::IDENTITY;
 
-// Each matrix times the next one.
+// Each matrix times the next one, of as many as both slices hold.
 #[unsafe(no_mangle)]
 pub extern "C" fn bench_mat_mul(ms: &[f32], out: &mut [f32]) {
     let (ms, _) = ms.as_chunks::<16>();
     let (out, _) = out.as_chunks_mut::<16>();
-    let next = ms.iter().skip(1);
+    let next = ms.iter().take(out.len()).skip(1);
     for ((a, b), product) in ms.iter().zip(next).zip(out) {
         *product = floats_of(matrix::mat_mul(matrix_of(a), matrix_of(b)));
     }

@@ -12,6 +12,7 @@ use image::{state_of, write_image};
 use image_reasons::image_refused;
 
 // The state that an image holds: what each call over one begins with. Not by `read_image`, whose answer would be copied into this one: a call took some 3 µs more.
+#[inline(always)] // a call of it copied the state once more, 24 KB of stack
 pub fn read_state(image: &[u8]) -> Result<FfState, Refusal>
     ensures { result ≡ read_state image.now }
 {

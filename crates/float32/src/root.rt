@@ -151,7 +151,9 @@ fn not_above(n: u64, g: u64) -> u64
 // 24 binary digits near the root of the number with an even exponent. t is the significand as a number
 // from 1 up to 2 and p is near its root; what `heron` is handed is a quarter of that number, and 4
 // parts in 10^11 more, so that a root that is whole is not missed.
-fn guess(f: Fields) -> u32 {
+fn guess(f: Fields) -> u32
+    ensures { (2 ^ 23 ≤ result) × (result < 2 ^ 24) }
+{
     let t = f64::from(f.significand) * 0.00000011920928955078125;
     let p = 0.369956 + t * (0.787923 + t * (0.0249374 * t - 0.182748));
     if f.exponent % 2 == 1 {
@@ -162,7 +164,9 @@ fn guess(f: Fields) -> u32 {
 
 // The leading 24 binary digits of a number near twice the root of y, from a p near that root: p + y / p
 // is twice a step of Heron's rule, and never below.
-fn heron(y: f64, p: f64) -> u32 {
+fn heron(y: f64, p: f64) -> u32
+    ensures { (2 ^ 23 ≤ result) × (result < 2 ^ 24) }
+{
     let u = p + y / p;
     if u.is_nan() {
         return 0x80_0000;

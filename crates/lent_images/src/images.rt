@@ -6,6 +6,13 @@ use calls::{Refusal, number};
 use ff_state::FfState;
 use image::{read_image, write_image};
 
+// A state that a call left, beside document 01's number of the answer, for callers that hold both by value.
+#[derive(Clone, Copy)]
+pub struct Numbered {
+    pub number: u32,
+    pub state: FfState,
+}
+
 // 0, or 9 where the bytes are no image, as C reads it: the state is as it was.
 #[tactic(auto, unfolding(image::specs::Read::read_number))]
 pub fn ff_state_read_image(s: &mut FfState, bytes: &[u8]) -> u32

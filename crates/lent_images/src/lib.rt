@@ -3,4 +3,4 @@
 
 mod images;
 
-pub use images::{ff_state_read_image, ff_state_write_image};
+pub use images::{Numbered, ff_state_read_image, ff_state_write_image};

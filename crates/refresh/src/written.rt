@@ -14,7 +14,7 @@ pub fn has_section(bits: u32, section: Section) -> bool
     ensures { result ≡ has_section bits section }
 {
     let bit = u32::from(u8::from(section));
-    bits / bit % 2 == 1
+    bits & bit != 0
 }
 
 // The section's rows in their place, if the bits name it. Not of an array: `refresh_answer` tests the mirror's length, and `as_mut_array` behind it

@@ -2,10 +2,8 @@
 // stdin and stdout beside src/.
 #![tactic(auto)]
 
-use std::io::{BufReader, BufWriter, Result};
+use std::io::Result;
 
 fn main(rt: HostRuntime) -> Result<()> {
-    let mut from = BufReader::new(rt.alloc(), rt.stdin())?;
-    let mut to = BufWriter::with_capacity(rt.alloc(), 65_536, rt.stdout())?;
-    replay_lines::replay(&mut from, &mut to)
+    replay_lines::replay(&mut rt.stdin(), &mut rt.stdout())
 }

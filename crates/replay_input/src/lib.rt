@@ -3,6 +3,8 @@
 
 mod input;
 mod line;
+mod read;
 
-pub use input::{KEPT, next_line};
-pub use line::{Line, read_line};
+pub use input::{Input, KEPT, next_line};
+pub use line::Line;
+pub use read::read_line;

@@ -1,32 +1,19 @@
 // A line, read as a letter and words.
-ghost use Rattle.std.specs.Prelude.{IfSome};
-ghost use Rattle.replay_input.specs.Line.{Read};
+ghost use Rattle.std.specs.Prelude.{◌≡◌, ◌≤◌, take};
 
-use arrayvec::ArrayVec;
-use replay_text::word_of;
-
-// A letter, and the words that follow it.
-#[derive(Drop)]
+// A letter, and the words that follow it: the first `count` of the array. Not a vector of them, which is no `Copy` type.
+#[derive(Clone, Copy)]
 pub struct Line {
     pub letter: u8,
-    pub words: ArrayVec<u32, 32>,
+    pub words: [u32; 32],
+    pub count: usize,
+    ghost within: { count ≤ 32 },
 }
 
-// Each word has a space before it, and nothing else follows the letter.
-pub fn read_line(text: &[u8]) -> Option<Line>
-    ensures { IfSome result (Read text.now) }
-{
-    let (letter, rest) = text.split_first()?;
-    let mut words = ArrayVec::new();
-    for part in rest.chunks(9) {
-        let (space, digits) = part.split_first()?;
-        if *space != b' ' {
-            return None;
-        }
-        words.try_push(word_of(digits)?).ok()?;
+impl Line {
+    pub fn words(&self) -> &[u32]
+        ensures { result.now ≡ take self.now.count self.now.words }
+    {
+        &self.words[..self.count]
     }
-    Some(Line {
-        letter: *letter,
-        words,
-    })
 }

@@ -1,3 +1,4 @@
 pub mod Answer
 pub mod Exactly
 pub mod Hex
+pub mod Room

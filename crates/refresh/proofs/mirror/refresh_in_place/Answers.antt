@@ -1,6 +1,6 @@
 -- A refused refresh returns before anything is written; an accepted one writes the sections in the table's order, of a state whose bits are taken:
 -- no section's rows depend on them.
-use Rattle.std.proofs.Common.{◌≡◌, ◌∙◌, ℕ, ◌+◌, ◌<◌, List, [], ◌∷◌, Float, Ok, true, cond, refl, sym, ap, subst, arith, add-one, length, get_or, drop, drop-cons}
+use Rattle.std.proofs.Common.{◌≡◌, ◌∙◌, ℕ, ◌+◌, ◌<◌, List, [], ◌∷◌, Float, Ok, cond, refl, sym, ap, subst, arith, add-one, length, get_or, drop, drop-cons}
 use Rattle.codec.specs.Put.{put}
 use Rattle.ff_state.specs.Active.{light_active_mask, active_lights}
 use Rattle.ff_state.specs.Dirty.{taken, take_ff_vs_dirty}
